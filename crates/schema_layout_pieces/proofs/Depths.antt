@@ -1,5 +1,6 @@
 -- How many braces are open, and what indents by them.
-use Rattle.std.proofs.Common.{◌≡◌, ℕ, zero, suc, ◌+◌, ◌<◌, List, [], ◌∷◌, ◌++◌, reverse, length, take, get_or, refl, ap, ◌∙◌, arith}
+use Rattle.std.proofs.Common.{◌≡◌, ℕ, zero, suc, ◌+◌, ◌<◌, List, [], ◌∷◌, ◌++◌, reverse, length, take, get_or, refl, ap}
+use Rattle.std.proofs.Common.{◌∙◌, arith}
 use Rattle.std.proofs.lemmas.List.{take_more, reverse-append}
 use Rattle.schema_layout_pieces.specs.declared.context.Bracket.{Bracket}
 use Rattle.schema_layout_pieces.specs.declared.context.Bracket.TheVariants.{Scope, Brace, Other}

@@ -55,7 +55,8 @@ plain_text f (p ∷ ps) =
     λ i. t i ++ (spelling p.piece ++ r i)
 
 pub written_back : (keeps : Bool) (text : List ℕ) (ps : List Spaced) → AreSpaced text ps
-    → Sentence (kinds_among (pieces_in ps)) → AreSpaced (kept_behind keeps beginning ps) (left_behind keeps beginning ps)
+    → Sentence (kinds_among (pieces_in ps))
+    → AreSpaced (kept_behind keeps beginning ps) (left_behind keeps beginning ps)
 written_back keeps text ps h s =
     kept_back h keeps Nothing _ _ _ _ tt (sentence_apart (kinds_among (pieces_in ps)) s)
 
@@ -66,7 +67,8 @@ laid_back text ps h s =
     let back = unspace (written_back false text q.0 q.1 (subst (λ l. Sentence (kinds_among l)) (sym q.2) s)) in
     let same : pieces_in (left_behind false beginning q.0) ≡ ps = pieces_left false beginning q.0 ∙ q.2 in
     let text : kept_behind false beginning q.0 ≡ laid ps = plain_text beginning q.0 ∙ ap laid q.2 in
-    subst (λ l. IsPieces (laid ps) l) same (subst (λ t. IsPieces t (pieces_in (left_behind false beginning q.0))) text back)
+    subst (λ l. IsPieces (laid ps) l) same
+    (subst (λ t. IsPieces t (pieces_in (left_behind false beginning q.0))) text back)
 
 pub keeps_pieces : (old new : List ℕ) (ps : List SourcePiece) → IsPieces old ps → Sentence (kinds_among ps)
     → IsLaidOut old new → HaveSamePieces old new
@@ -110,10 +112,11 @@ kept_once old new again ps h s l m =
 pub written_plain : (old new : List ℕ) → IsWritten false old new → IsLaidOut old new
 written_plain old new w = (pieces_in w.0, unspace w.1, w.2 ∙ plain_text beginning w.0)
 
--- and with them it is laid out with those that are kept
+-- What is written with empty lines is laid out with those that are kept.
 pub written_kept : (old new : List ℕ) → IsWritten true old new → IsLaidOutKept old new
 written_kept old new w = w
 
 -- a text with pieces has them with its empty lines
-pub spaced_pieces : (text : List ℕ) → ((ps : List SourcePiece) × IsPieces text ps) → (qs : List Spaced) × AreSpaced text qs
+pub spaced_pieces : (text : List ℕ) → ((ps : List SourcePiece) × IsPieces text ps)
+    → (qs : List Spaced) × AreSpaced text qs
 spaced_pieces text p = let q = space p.1 NoFeed in (q.0, q.1)

@@ -131,11 +131,13 @@ one_lexeme x y us vs h k e =
       moved.longest (length x.text) x.kind h.in_range h.form,
     ) in
     let text : x.text ≡ y.text =
-    sym (take_at x.text us (length x.text) refl) ∙ (ap (take (length x.text)) e ∙ take_at y.text vs (length x.text) (sym len)) in
+    sym (take_at x.text us (length x.text) refl)
+    ∙ (ap (take (length x.text)) e ∙ take_at y.text vs (length x.text) (sym len)) in
     let kind : x.kind ≡ y.kind =
     one_kind y.text x.kind y.kind (subst (λ w. IsForm w x.kind) text (form_here x us h)) (form_here y vs k) in (
       (λ i. record { kind = kind i; text = text i }),
-      sym (drop_at x.text us (length x.text) refl) ∙ (ap (drop (length x.text)) e ∙ drop_at y.text vs (length x.text) (sym len)),
+      sym (drop_at x.text us (length x.text) refl)
+          ∙ (ap (drop (length x.text)) e ∙ drop_at y.text vs (length x.text) (sym len)),
     )
 
 pub one_spaced : {near : Bool} {s : Feeds} {r : List ℕ} {ps : List Spaced} → HasSpaced near s r ps

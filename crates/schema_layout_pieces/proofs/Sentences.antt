@@ -2,7 +2,10 @@
 use Rattle.std.proofs.Common.{◌≡◌, Bool, true, not, ◌&&◌, ◌||◌, [], ◌∷◌, ◌++◌, refl, sym, ap, ◌∙◌, subst}
 use Rattle.std.proofs.lemmas.List.{append_assoc, append-nil}
 use Rattle.schema_syntax_grammar.specs.declared.token_kind.TokenKind.{TokenKind}
-use Rattle.schema_syntax_grammar.specs.declared.token_kind.TokenKind.TheVariants.{Colon, Comma, Equals, Greater, KwEnum, KwNamespace, LBrace, LBracket, LParen, PathSep, RBrace, RBracket, RParen, Semi, StringLit}
+use Rattle.schema_syntax_grammar.specs.declared.token_kind.TokenKind.TheVariants.{Colon, Comma, Equals, Greater, KwEnum}
+use Rattle.schema_syntax_grammar.specs.declared.token_kind.TokenKind.TheVariants.{KwNamespace, LBrace, LBracket, LParen}
+use Rattle.schema_syntax_grammar.specs.declared.token_kind.TokenKind.TheVariants.{PathSep, RBrace, RBracket, RParen}
+use Rattle.schema_syntax_grammar.specs.declared.token_kind.TokenKind.TheVariants.{Semi, StringLit}
 use Rattle.schema_syntax_grammar.specs.Grammar.{is_word_kind, is_ident, same_kind, Kinds, Nonterminal, Phrase, Sentence}
 use Rattle.schema_syntax_grammar.specs.Grammar.{ty, rec, path, types}
 use Rattle.schema_syntax_grammar.specs.Grammar as G
@@ -71,17 +74,28 @@ ty_opens (G.record_type p) rest = rec_opens p rest
 apart : {n : Nonterminal} {a : Kinds} → Phrase n a → Keeps a
 apart G.no_item = nil
 apart (G.more_items {a = a} {b = b} p_a p_b) = join a b (apart p_a) (apart p_b)
-apart (G.namespace_item {a = a} {p = p} {d = d} p_a p_p p_d) = join a (KwNamespace ∷ (p ++ LBrace ∷ (d ++ RBrace ∷ []))) (apart p_a) (join p (LBrace ∷ (d ++ RBrace ∷ [])) (apart p_p) (join d (RBrace ∷ []) (apart p_d) nil))
+apart (G.namespace_item {a = a} {p = p} {d = d} p_a p_p p_d) =
+    join a (KwNamespace ∷ (p ++ LBrace ∷ (d ++ RBrace ∷ []))) (apart p_a)
+    (join p (LBrace ∷ (d ++ RBrace ∷ [])) (apart p_p) (join d (RBrace ∷ []) (apart p_d) nil))
 apart (G.decl_item p_a) = apart p_a
 apart G.no_decl = nil
 apart (G.more_decls {a = a} {b = b} p_a p_b) = join a b (apart p_a) (apart p_b)
 apart (G.annotated {a = a} {b = b} p_a p_b) = join a b (apart p_a) (apart p_b)
-apart (G.entity_decl {i = i} {p = p} {s = s} {t = t} p_i p_p p_s p_t) = join i (p ++ (s ++ (t ++ Semi ∷ []))) (apart p_i) (join p (s ++ (t ++ Semi ∷ [])) (apart p_p) (join s (t ++ Semi ∷ []) (apart p_s) (join t (Semi ∷ []) (apart p_t) nil)))
-apart (G.enum_decl {i = i} {s = s} p_i p_s) = join i (KwEnum ∷ LBracket ∷ (s ++ RBracket ∷ Semi ∷ [])) (apart p_i) (join s (RBracket ∷ Semi ∷ []) (apart p_s) nil)
-apart (G.external_entity {i = i} {p = p} p_i p_p) = join i (p ++ Semi ∷ []) (apart p_i) (join p (Semi ∷ []) (apart p_p) nil)
-apart (G.action_decl {n = n} {r = r} {a = a} p_n p_r p_a) = join n (r ++ (a ++ Semi ∷ [])) (apart p_n) (join r (a ++ Semi ∷ []) (apart p_r) (join a (Semi ∷ []) (apart p_a) nil))
-apart (G.external_action {n = n} {r = r} p_n p_r) = join n (r ++ Semi ∷ []) (apart p_n) (join r (Semi ∷ []) (apart p_r) nil)
-apart (G.common_decl {i = i} {t = t} h p_t) = cons i (Equals ∷ (t ++ Semi ∷ [])) (ident_plain i h) (join t (Semi ∷ []) (apart p_t) nil)
+apart (G.entity_decl {i = i} {p = p} {s = s} {t = t} p_i p_p p_s p_t) =
+    join i (p ++ (s ++ (t ++ Semi ∷ []))) (apart p_i) (join p (s ++ (t ++ Semi ∷ [])) (apart p_p)
+    (join s (t ++ Semi ∷ []) (apart p_s) (join t (Semi ∷ []) (apart p_t) nil)))
+apart (G.enum_decl {i = i} {s = s} p_i p_s) =
+    join i (KwEnum ∷ LBracket ∷ (s ++ RBracket ∷ Semi ∷ [])) (apart p_i)
+    (join s (RBracket ∷ Semi ∷ []) (apart p_s) nil)
+apart (G.external_entity {i = i} {p = p} p_i p_p) =
+    join i (p ++ Semi ∷ []) (apart p_i) (join p (Semi ∷ []) (apart p_p) nil)
+apart (G.action_decl {n = n} {r = r} {a = a} p_n p_r p_a) =
+    join n (r ++ (a ++ Semi ∷ [])) (apart p_n) (join r (a ++ Semi ∷ []) (apart p_r)
+    (join a (Semi ∷ []) (apart p_a) nil))
+apart (G.external_action {n = n} {r = r} p_n p_r) =
+    join n (r ++ Semi ∷ []) (apart p_n) (join r (Semi ∷ []) (apart p_r) nil)
+apart (G.common_decl {i = i} {t = t} h p_t) =
+    cons i (Equals ∷ (t ++ Semi ∷ [])) (ident_plain i h) (join t (Semi ∷ []) (apart p_t) nil)
 apart (G.one_ident {i = i} h) = cons i [] (ident_plain i h) nil
 apart (G.more_idents {i = i} {a = a} h p_a) = cons i (Comma ∷ a) (ident_plain i h) (apart p_a)
 apart G.no_parents = nil
@@ -128,7 +142,9 @@ apart (G.braces {a = a} p_a) = join a (RBrace ∷ []) (apart p_a) nil
 apart G.no_attr = nil
 apart (G.last_attr p_a) = apart p_a
 apart (G.more_attrs {a = a} {b = b} p_a p_b) = join a (Comma ∷ b) (apart p_a) (apart p_b)
-apart (G.one_attr {a = a} {n = n} {m = m} {t = t} p_a p_n p_m p_t) = join a (n ++ (m ++ Colon ∷ t)) (apart p_a) (join n (m ++ Colon ∷ t) (apart p_n) (join m (Colon ∷ t) (apart p_m) (colon t (ty_opens p_t) (apart p_t))))
+apart (G.one_attr {a = a} {n = n} {m = m} {t = t} p_a p_n p_m p_t) =
+    join a (n ++ (m ++ Colon ∷ t)) (apart p_a) (join n (m ++ Colon ∷ t) (apart p_n) (join m (Colon ∷ t) (apart p_m)
+    (colon t (ty_opens p_t) (apart p_t))))
 apart G.no_mark = nil
 apart G.question = nil
 apart (G.one_step {i = i} h) = cons i [] (ident_plain i h) nil

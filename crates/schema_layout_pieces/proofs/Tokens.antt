@@ -11,7 +11,8 @@ use Rattle.schema_syntax_tokens.specs.Scans as K
 use Rattle.schema_syntax_tokens.specs.TokenLists as T
 use Rattle.schema_syntax_tokens.proofs.Blank.{NoBlank-nil}
 use Rattle.schema_syntax_tokens.proofs.Longest.{NoForm-nil}
-use Rattle.schema_layout_pieces.specs.Pieces.{SourcePiece, token, comment, lexemes_among, kinds_among, ends_line, HasPieces, IsPieces}
+use Rattle.schema_layout_pieces.specs.Pieces.{SourcePiece, token, comment, lexemes_among, kinds_among, ends_line}
+use Rattle.schema_layout_pieces.specs.Pieces.{HasPieces, IsPieces}
 use Rattle.schema_layout_pieces.specs.Pieces.HasPieces.{none, blank, note, lexeme}
 use Rattle.schema_layout_pieces.proofs.OnePieces.{form_here}
 
@@ -68,8 +69,8 @@ reads_lexeme from whole front rest x xs e w i r =
       ((refl, here, form_here x rest i), r.2),
     )
 
-reads : {near : Bool} {rest : List ℕ} {ps : List SourcePiece} → HasPieces near rest ps → (from : ℕ) (whole front : List ℕ)
-    → from ≡ length front → whole ≡ front ++ rest → Reads from whole rest (lexemes_among ps)
+reads : {near : Bool} {rest : List ℕ} {ps : List SourcePiece} → HasPieces near rest ps → (from : ℕ)
+    → (whole front : List ℕ) → from ≡ length front → whole ≡ front ++ rest → Reads from whole rest (lexemes_among ps)
 reads none from whole front e w = ([], ([], K.none, omega arith, NoBlank-nil, NoForm-nil), tt)
 reads (blank {rest = rest} {ps = ps} c s h) from whole front e w =
     let b = encode_utf8 c in

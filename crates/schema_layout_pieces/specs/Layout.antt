@@ -32,15 +32,18 @@ beginning = record { last = Nothing; kind = End; annotates = false; heads = fals
 -- An item may begin there: first of all, or behind `;`, `}`, `)` or the word after `@`.
 abbrev pub begins_item : Before → Bool
 begins_item f =
-    f.annotates || (same_kind f.kind End || (same_kind f.kind Semi || (same_kind f.kind RBrace || same_kind f.kind RParen)))
+    f.annotates || (same_kind f.kind End || (same_kind f.kind Semi
+    || (same_kind f.kind RBrace || same_kind f.kind RParen)))
 
 -- a token of this kind is `namespace` where an item begins, or goes on with the path behind it
 abbrev pub is_head : Before → TokenKind → Bool
 is_head f k = (same_kind k KwNamespace && begins_item f) || (f.heads && (is_word_kind k || same_kind k PathSep))
 
+-- one of `[ ( <`
 abbrev pub opens : TokenKind → Bool
 opens k = same_kind k LBracket || (same_kind k LParen || same_kind k Less)
 
+-- one of `} ] ) >`
 abbrev pub closes : TokenKind → Bool
 closes k = same_kind k RBrace || (same_kind k RBracket || (same_kind k RParen || same_kind k Greater))
 
@@ -53,13 +56,15 @@ brackets_past f k =
 -- what stands in front of the next piece, behind a token of this kind
 abbrev pub past_token : Before → TokenKind → Before
 past_token f k =
-    record { last = Token; kind = k; annotates = same_kind f.kind At; heads = is_head f k; brackets = brackets_past f k }
+    record { last = Token; kind = k; annotates = same_kind f.kind At; heads = is_head f k;
+    brackets = brackets_past f k }
 
--- and behind a comment
+-- what stands in front of the next piece, behind a comment
 abbrev pub past_comment : Before → Before
 past_comment f =
     record { last = Comment; kind = f.kind; annotates = f.annotates; heads = f.heads; brackets = f.brackets }
 
+-- what stands in front of the piece behind this one
 abbrev pub past : Before → SourcePiece → Before
 past f (token x) = past_token f x.kind
 past f (comment beside line) = past_comment f
@@ -81,15 +86,16 @@ abbrev pub in_braces : List Bracket → Bool
 in_braces (Brace ∷ outer) = true
 in_braces _ = false
 
--- a new line stands between two tokens behind `{`, `;`, `)` and an annotation without a value, and before `}`
+-- A new line stands between two tokens behind `{`, `;`, `)` and an annotation without a value, and before `}`.
 abbrev pub breaks : Before → TokenKind → Bool
 breaks f b =
     (same_kind f.kind LBrace || (same_kind f.kind Semi || same_kind b RBrace))
     || (same_kind f.kind RParen || (f.annotates && not (same_kind b LParen)))
 
--- and, where they do not touch, behind a `,` in braces, and behind `}`, but not before `tags`
+-- A new line stands between two tokens that do not touch behind a `,` in braces, and behind `}`, but not before `tags`.
 abbrev pub separates : Before → TokenKind → Bool
-separates f b = (same_kind f.kind Comma && in_braces f.brackets) || (same_kind f.kind RBrace && not (same_kind b KwTags))
+separates f b =
+    (same_kind f.kind Comma && in_braces f.brackets) || (same_kind f.kind RBrace && not (same_kind b KwTags))
 
 -- between two tokens, by the first rule that holds
 abbrev pub between : Before → TokenKind → Gap
@@ -100,18 +106,19 @@ between f b =
     else (if separates f b then NewLine
     else Space)))
 
--- before a token: no gap where no piece stands in front, a new line behind a comment
+-- Before a token stands no gap where no piece is in front, and a new line behind a comment.
 abbrev pub gap_to_token : Last → Before → TokenKind → Gap
 gap_to_token Nothing f k = NoGap
 gap_to_token Comment f k = NewLine
 gap_to_token Token f k = between f k
 
--- before a comment: behind a token a space where it is beside that, else a new line
+-- Before a comment stands a space where it is beside a token, and a new line otherwise.
 abbrev pub gap_to_comment : Last → Bool → Gap
 gap_to_comment Nothing beside = NoGap
 gap_to_comment Comment beside = NewLine
 gap_to_comment Token beside = if beside then Space else NewLine
 
+-- the gap before a piece
 abbrev pub gap : Before → SourcePiece → Gap
 gap f (token x) = gap_to_token f.last f x.kind
 gap f (comment beside line) = gap_to_comment f.last beside
@@ -126,11 +133,12 @@ depth (_ ∷ outer) = suc (depth outer)
 abbrev pub depth_at : Before → TokenKind → ℕ
 depth_at f k = depth f.brackets - (if same_kind k RBrace then 1 else 0)
 
+-- at how many `{` a piece stands on a line of its own
 abbrev pub depth_of : Before → SourcePiece → ℕ
 depth_of f (token x) = depth_at f x.kind
 depth_of f (comment beside line) = depth f.brackets
 
--- two spaces each
+-- two spaces for each `{`
 abbrev pub indent : ℕ → List ℕ
 indent zero = []
 indent (suc n) = 32 ∷ 32 ∷ indent n
@@ -151,5 +159,6 @@ abbrev pub laid_behind : Before → List SourcePiece → List ℕ
 laid_behind f [] = last_end f.last
 laid_behind f (p ∷ ps) = gap_text (gap f p) (depth_of f p) ++ (spelling p ++ laid_behind (past f p) ps)
 
+-- the pieces laid out
 abbrev pub laid : List SourcePiece → List ℕ
 laid ps = laid_behind beginning ps

@@ -30,4 +30,5 @@ comment_gap f near spaced =
 -- the gap before a token of this kind
 abbrev pub token_gap : Before → Bool → TokenKind → List ℕ
 token_gap f spaced k =
-    spaced_text (gap_to_token f.last f k) (spaced && may_be_spaced f (token (record { kind = k; text = [] }))) (depth_at f k)
+    spaced_text (gap_to_token f.last f k) (spaced && may_be_spaced f (token (record { kind = k; text = [] })))
+    (depth_at f k)

@@ -1,7 +1,9 @@
 ghost use Rattle.std.specs.Prelude.{◌≡◌, ◌≤◌, [], ◌∷◌, IfOk, true, not, ◌&&◌};
 ghost use Rattle.schema_syntax_grammar.specs.declared.token_kind.TokenKind.{TokenKind};
-ghost use Rattle.schema_layout_pieces.specs.Layout.{Before, beginning, begins_item, is_head, opens, closes, clings, holds, breaks, separates, between, in_braces, brackets_past};
-ghost use Rattle.schema_layout_pieces.specs.Layout.{past_token, past_comment, gap_to_token, gap_to_comment, depth, depth_at};
+ghost use Rattle.schema_layout_pieces.specs.Layout.{Before, beginning, begins_item, is_head, opens, closes, clings};
+ghost use Rattle.schema_layout_pieces.specs.Layout.{holds, breaks, separates, between, in_braces, brackets_past};
+ghost use Rattle.schema_layout_pieces.specs.Layout.{past_token, past_comment, gap_to_token, gap_to_comment};
+ghost use Rattle.schema_layout_pieces.specs.Layout.{depth, depth_at};
 ghost use Rattle.schema_layout_pieces.specs.Kept.{feed, fed, has_empty_line, is_at_brace};
 
 use schema_syntax_grammar::TokenKind;
@@ -170,7 +172,10 @@ impl Model for Context {
 
     ghost Value = { Before };
 
-    ghost view = { λ c. record { last = c.last; kind = c.kind; annotates = c.annotates; heads = c.heads; brackets = reverse c.brackets.items } };
+    ghost view = {
+        λ c. record { last = c.last; kind = c.kind; annotates = c.annotates; heads = c.heads;
+        brackets = reverse c.brackets.items }
+    };
 }
 
 impl Context {

@@ -50,7 +50,8 @@ fn push_comment(
     spaced: bool,
     line: &str,
 ) -> Result<(), AllocError>
-    ensures text { IfOk result (λ _. string_bytes text.new ≡ (string_bytes text.old ++ comment_gap context.old near spaced) ++ line.now) }
+    ensures text { IfOk result (λ _. string_bytes text.new
+        ≡ (string_bytes text.old ++ comment_gap context.old near spaced) ++ line.now) }
     ensures context { IfOk result (λ _. context.new ≡ past_comment context.old) }
 {
     let stays = spaced && context.may_be_spaced(false);
@@ -68,7 +69,8 @@ fn push_token(
     kind: TokenKind,
     word: &str,
 ) -> Result<(), AllocError>
-    ensures text { IfOk result (λ _. string_bytes text.new ≡ (string_bytes text.old ++ token_gap context.old spaced kind) ++ word.now) }
+    ensures text { IfOk result (λ _. string_bytes text.new
+        ≡ (string_bytes text.old ++ token_gap context.old spaced kind) ++ word.now) }
     ensures context { IfOk result (λ _. context.new ≡ past_token context.old kind) }
 {
     let stays = spaced && context.may_be_spaced(kind == TokenKind::RBrace);
@@ -90,7 +92,9 @@ fn push_comments<'a>(
     keeps: bool,
     rest: &'a str,
 ) -> Result<(&'a str, Feeds), AllocError>
-    ensures whole { IfOk result (λ after. (whole : List ℕ) → IsWhole keeps whole (string_bytes text.old) context.old (is_near context.old.last) NoFeed rest.now → (near : Bool) × IsWhole keeps whole (string_bytes text.new) context.new near after.1 after.0.now) }
+    ensures whole { IfOk result (λ after. (whole : List ℕ)
+        → IsWhole keeps whole (string_bytes text.old) context.old (is_near context.old.last) NoFeed rest.now
+        → (near : Bool) × IsWhole keeps whole (string_bytes text.new) context.new near after.1 after.0.now) }
     ensures stop { IfOk result (λ after. NoBlank after.0.now) }
     ensures shorter { IfOk result (λ after. length after.0.now ≤ length rest.now) }
     ensures utf8 { IfOk result (λ after. IsUtf8 after.0.now) }

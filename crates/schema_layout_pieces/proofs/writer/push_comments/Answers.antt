@@ -27,9 +27,11 @@ loop-rest-preserved-then-starts_comment c =
           c.loop-rest.context c.push_comment.new.context c.loop-rest.near c.loop-rest.feeds
           c.has_kept_line.result rest c.split_at.result.0.now
           c.split_at.result.1.now
-          (subst (λ r. StartsComment r) c.as_bytes.ensures.value (c.starts_comment.ensures.0 c.if-starts_comment.true)) whole_rest
+          (subst (λ r. StartsComment r) c.as_bytes.ensures.value
+          (c.starts_comment.ensures.0 c.if-starts_comment.true)) whole_rest
           (subst (λ l. All IsInLine l) front c.line_len.ensures.line)
-          (subst (λ l. EndsLine l) back c.line_len.ensures.stop) c.has_kept_line.ensures c.in_ok-push_comment.ensures.text
+          (subst (λ l. EndsLine l) back c.line_len.ensures.stop) c.has_kept_line.ensures
+          c.in_ok-push_comment.ensures.text
           c.in_ok-push_comment.ensures.context (c.loop-rest.invariant.2 whole h),
     )
 
@@ -55,7 +57,9 @@ loop-rest-preserved c =
       c.as_str-rest.utf8,
       grind (arith, common_steps),
       λ whole h. step_blank c.args.keeps whole (string_bytes c.loop-rest.text) c.loop-rest.context c.loop-rest.near
-          c.stays_near-near.result c.loop-rest.feeds c.fed-feeds.result c.in-Some.first c.loop-rest.rest.now c.as_str-rest.result.now
-          (sym c.is_whitespace.ensures ∙ c.if-not-is_whitespace.false) begins c.stays_near-near.ensures c.fed-feeds.ensures
+          c.stays_near-near.result c.loop-rest.feeds c.fed-feeds.result c.in-Some.first c.loop-rest.rest.now
+          c.as_str-rest.result.now
+          (sym c.is_whitespace.ensures ∙ c.if-not-is_whitespace.false) begins c.stays_near-near.ensures
+          c.fed-feeds.ensures
           (c.loop-rest.invariant.2 whole h),
     )
