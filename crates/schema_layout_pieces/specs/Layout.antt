@@ -56,8 +56,13 @@ brackets_past f k =
 -- what stands in front of the next piece, behind a token of this kind
 abbrev pub past_token : Before → TokenKind → Before
 past_token f k =
-    record { last = Token; kind = k; annotates = same_kind f.kind At; heads = is_head f k;
-    brackets = brackets_past f k }
+    record {
+      last = Token;
+      kind = k;
+      annotates = same_kind f.kind At;
+      heads = is_head f k;
+      brackets = brackets_past f k;
+    }
 
 -- what stands in front of the next piece, behind a comment
 abbrev pub past_comment : Before → Before

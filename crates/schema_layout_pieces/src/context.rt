@@ -1,4 +1,4 @@
-ghost use Rattle.std.specs.Prelude.{◌≡◌, ◌≤◌, [], ◌∷◌, IfOk, true, not, ◌&&◌};
+ghost use Rattle.std.specs.Prelude.{◌≡◌, ◌≤◌, [], ◌∷◌, drop, IfOk, true, not, ◌&&◌};
 ghost use Rattle.schema_syntax_grammar.specs.declared.token_kind.TokenKind.{TokenKind};
 ghost use Rattle.schema_layout_pieces.specs.Layout.{Before, beginning, begins_item, is_head, opens, closes, clings};
 ghost use Rattle.schema_layout_pieces.specs.Layout.{holds, breaks, separates, between, in_braces, brackets_past};
@@ -144,17 +144,6 @@ fn braces_of(bracket: Bracket) -> usize
     }
 }
 
-// How many of the brackets are `{`.
-fn count_braces(brackets: &[Bracket]) -> usize
-    ensures { result ≡ depth brackets.now }
-{
-    let mut count: usize = 0;
-    for at in 0..brackets.len() {
-        count += braces_of(brackets[at]);
-    }
-    count
-}
-
 /// What stands in front of a piece.
 #[derive(Drop)]
 pub struct Context {
@@ -164,18 +153,25 @@ pub struct Context {
     heads: bool,
     // the innermost last
     brackets: Vec<Bracket>,
+    // how many of them are `{`
+    braces: usize,
 }
 
 impl Model for Context {
-    ghost use Rattle.std.specs.Prelude.{reverse};
-    ghost use Rattle.schema_layout_pieces.specs.Layout.{Before};
+    ghost use Rattle.std.specs.Prelude.{◌≡◌, reverse};
+    ghost use Rattle.schema_layout_pieces.specs.Layout.{Before, depth};
 
     ghost Value = { Before };
 
-    ghost view = {
-        λ c. record { last = c.last; kind = c.kind; annotates = c.annotates; heads = c.heads;
-        brackets = reverse c.brackets.items }
-    };
+    ghost view = { λ c. record {
+      last = c.last;
+      kind = c.kind;
+      annotates = c.annotates;
+      heads = c.heads;
+      brackets = reverse c.brackets.items;
+    } };
+
+    ghost invariant = { λ c. c.braces ≡ depth (reverse c.brackets.items) };
 }
 
 impl Context {
@@ -189,6 +185,7 @@ impl Context {
             annotates: false,
             heads: false,
             brackets: Vec::new(alloc),
+            braces: 0,
         }
     }
 
@@ -228,7 +225,7 @@ impl Context {
     pub fn depth(&self) -> usize
         ensures { result ≡ depth self.now.brackets }
     {
-        count_braces(&self.brackets)
+        self.braces
     }
 
     /// At how many `{` a token of this kind stands on a line of its own.
@@ -323,6 +320,24 @@ impl Context {
         self.last = Last::Comment;
     }
 
+    // Opens a bracket.
+    fn open(&mut self, bracket: Bracket) -> Result<(), AllocError>
+        ensures { IfOk result (λ _. self.new ≡ record self.old { brackets = bracket ∷ self.old.brackets }) }
+    {
+        self.brackets.push(bracket)?;
+        self.braces += braces_of(bracket);
+        Ok(())
+    }
+
+    // Closes the innermost bracket, if one is open.
+    fn close(&mut self)
+        ensures { self.new ≡ record self.old { brackets = drop 1 self.old.brackets } }
+    {
+        if let Some(closed) = self.brackets.pop() {
+            self.braces -= braces_of(closed);
+        }
+    }
+
     // Opens or closes the bracket that a token of this kind is.
     fn pass_bracket(&mut self, kind: TokenKind) -> Result<(), AllocError>
         ensures { IfOk result (λ _. self.new ≡ record self.old { brackets = brackets_past self.old kind }) }
@@ -333,15 +348,13 @@ impl Context {
             } else {
                 Bracket::Brace
             };
-            self.brackets.push(bracket)?;
-            return Ok(());
+            return self.open(bracket);
         }
         if opens(kind) {
-            self.brackets.push(Bracket::Other)?;
-            return Ok(());
+            return self.open(Bracket::Other);
         }
         if closes(kind) {
-            let _closed = self.brackets.pop();
+            self.close();
         }
         Ok(())
     }
