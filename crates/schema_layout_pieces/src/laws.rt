@@ -17,8 +17,8 @@ pub fn sentences_are_apart()
     ensures { (kinds : List TokenKind) → Sentence kinds → is_apart kinds ≡ true }
 {}
 
-/// A text has at most one list of pieces; their tokens are its tokens; and where tokens go through it to its end, it has
-/// pieces.
+/// A text has at most one list of pieces; their tokens are its tokens; and where tokens go through it to its end, it
+/// has pieces.
 pub fn pieces_of_texts()
     ensures one { (text : List ℕ) (pieces others : List SourcePiece) → IsPieces text pieces → IsPieces text others
         → pieces ≡ others }
@@ -36,7 +36,8 @@ pub fn laid_pieces_are_read_back()
 
 /// A schema laid out has its pieces, and is laid out already.
 pub fn laid_texts_stay()
-    ensures pieces { (old new : List ℕ) (pieces : List SourcePiece) → IsPieces old pieces → Sentence (kinds_among pieces)
+    ensures pieces { (old new : List ℕ) (pieces : List SourcePiece) → IsPieces old pieces
+        → Sentence (kinds_among pieces)
         → IsLaidOut old new → HaveSamePieces old new }
     ensures once { (old new again : List ℕ) (pieces : List SourcePiece) → IsPieces old pieces
         → Sentence (kinds_among pieces) → IsLaidOut old new → IsLaidOut new again → again ≡ new }
@@ -44,7 +45,8 @@ pub fn laid_texts_stay()
 
 /// A schema laid out with its empty lines has its pieces, and is laid out already.
 pub fn kept_texts_stay()
-    ensures pieces { (old new : List ℕ) (pieces : List SourcePiece) → IsPieces old pieces → Sentence (kinds_among pieces)
+    ensures pieces { (old new : List ℕ) (pieces : List SourcePiece) → IsPieces old pieces
+        → Sentence (kinds_among pieces)
         → IsLaidOutKept old new → HaveSamePieces old new }
     ensures once { (old new again : List ℕ) (pieces : List SourcePiece) → IsPieces old pieces
         → Sentence (kinds_among pieces) → IsLaidOutKept old new → IsLaidOutKept new again → again ≡ new }
