@@ -1,11 +1,11 @@
 #!/usr/bin/env python3
-"""Times scanning, finding the syntax fault and parsing of generated schemas, and prints ratios.
+"""Times scanning, looking for a syntax fault, and parsing, on generated schemas, and prints ratios.
 
-usage: bench/parse.py [RUNS]      (from the top of the repository, with crates/schema_bench built: rt run schema_bench)
+usage: bench/parse.py [RUNS]      (build the program first: tools/build schema_bench)
 
-The texts have 1, 2 and 4 MiB, with records, parents, annotations, strings and comments. Wanted: growth of at most 2.2 for a
-doubled text; the recogniser, which is finding the fault without scanning, takes at most half of the time of parsing; a fault
-at the end of the text is found in the time of parsing it.
+The texts have 1, 2 and 4 MiB, with records, parents, annotations, strings and comments. Wanted: a text twice as long takes at most
+2.2 times as long; the recogniser, which looks for the fault after scanning, takes at most half of the time of parsing; a fault at
+the end of a text takes no longer to find than parsing the text.
 """
 
 import os
@@ -50,7 +50,7 @@ def generated(size):
 
 
 def timed(word, path, status=0):
-    """Seconds and peak memory of the fastest of some runs."""
+    """Seconds and peak memory of the fastest run."""
     best = None
     for _ in range(RUNS):
         with open(path, "rb") as source:

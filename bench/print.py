@@ -1,11 +1,11 @@
 #!/usr/bin/env python3
-"""Times the printing of generated schemas' fragments, and prints ratios.
+"""Times the printing of fragments of generated schemas, and prints ratios.
 
-usage: bench/print.py      (from the top of the repository, with crates/schema_bench built: rt run schema_bench)
+usage: bench/print.py [RUNS]      (build the program first: tools/build schema_bench)
 
-The texts of `bench/parse.py` with 1, 2 and 4 MiB are translated, and printed again. Wanted: printing alone, so without the
-translation, takes at most 0.4 times as long as parsing the same text, grows by at most 2.1 where the text is doubled, and takes at
-most twice the text in memory beyond translation.
+The texts are those of `bench/parse.py`, of 1, 2 and 4 MiB, translated and printed again. Wanted of printing alone, without the
+translation: at most 0.4 times the time of parsing the same text, at most 2.1 times the time for a text twice as long, and at most
+twice the text in memory beyond what the translation takes.
 """
 
 import os

@@ -1,10 +1,10 @@
 #!/usr/bin/env python3
-"""Times `recover` beside `LC_ALL=C sort -u` of the same file, and prints ratios.
+"""Compares `recover` with `LC_ALL=C sort -u` on the same file, and prints ratios.
 
-usage: bench/recover.py [RUNS]      (from the top of the repository, with the program built)
+usage: bench/recover.py [RUNS]      (build the program first: ./cedar_schema_tool --build)
 
-Wanted: at most 5 times the time of `sort -u`, growth of at most 2.3 for a doubled input, and a peak memory of at most
-30 times input plus output.
+Wanted: at most 5 times the time of `sort -u`, at most 2.3 times the time for an input twice as long, and a peak memory of at most
+30 times input and output together.
 """
 
 import os
@@ -37,13 +37,13 @@ def under_roots(count, roots=100):
 
 
 def whole(count):
-    """The declarations of `bench/parse.py`, with all that they name."""
+    """The declarations of `bench/parse.py`, and every type that they name."""
     part = parse.ONE.replace('Action::"any"', 'Action::"any{k}"')
     return "namespace Org { entity Team; }\n" + "".join(part.format(k=k) for k in range(count))
 
 
 def timed(words, path, env=None):
-    """Seconds, peak memory in bytes, and the output's length, of the fastest of some runs."""
+    """Seconds, peak memory in bytes, and length of the output, of the fastest run."""
     best = None
     for _ in range(RUNS):
         with open(path, "rb") as source, open(os.path.join(WORK, "out"), "wb") as out:

@@ -1,10 +1,10 @@
 #!/usr/bin/env python3
 """Times the resolution of generated schemas, and prints ratios.
 
-usage: bench/resolve.py [RUNS]      (from the top of the repository, with crates/schema_bench built: rt run schema_bench)
+usage: bench/resolve.py [RUNS]      (build the program first: tools/build schema_bench)
 
-Schemas of one namespace with 50,000, 100,000 and 200,000 references to half as many entity types, shuffled, are translated
-and resolved. The time of translation alone is taken off. Wanted: growth of at most 2.3 where both are doubled.
+The schemas have one namespace with 50,000, 100,000 and 200,000 references to half as many entity types, in random order. They are
+translated and resolved, and the time of the translation is subtracted. Wanted: at most 2.3 times the time for twice as many.
 """
 
 import os

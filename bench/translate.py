@@ -1,10 +1,10 @@
 #!/usr/bin/env python3
 """Times the translation of generated schemas to fragments, and prints ratios.
 
-usage: bench/translate.py [RUNS]      (from the top of the repository, with crates/schema_bench built: rt run schema_bench)
+usage: bench/translate.py [RUNS]      (build the program first: tools/build schema_bench)
 
-The texts of `bench/parse.py` with 1, 2 and 4 MiB are translated, and then schemas of one namespace with 25,000, 50,000 and
-100,000 references to half as many entity types, shuffled. Wanted: growth of at most 2.3 where either is doubled.
+The schemas are the texts of `bench/parse.py`, of 1, 2 and 4 MiB, and schemas of one namespace with 25,000, 50,000 and 100,000
+references to half as many entity types, in random order. Wanted: at most 2.3 times the time for twice as much of either.
 """
 
 import os
@@ -14,7 +14,7 @@ import parse
 
 
 def references(count):
-    """A schema with so many references to half as many entity types, under names that are shuffled."""
+    """A schema with `count` references to half as many entity types, in random order."""
     chance = random.Random(count)
     names = [f"Type{i:06}" for i in range(count // 2)]
     chance.shuffle(names)
