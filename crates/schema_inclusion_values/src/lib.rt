@@ -1,0 +1,5 @@
+//! The values that a meaning admits: entities, requests, and actions within others; and the first that one meaning
+//! admits and another does not.
+#![tactic(auto)]
+
+pub mod laws;
