@@ -20,8 +20,8 @@ expand_type-requires-clause-ready c =
     (subst (λ p. All (IsReady s c.args.done.now (name_of p)) (parts c.args.ty.now)) (sym c.in_namespace.ensures.place)
     c.requires.ready)
 
-pub returns-else-is_deeper : goal.returns-else-is_deeper
-returns-else-is_deeper c =
+pub returns : goal.returns
+returns c =
     subst (λ p. ExpandsTo (fragment_scope c.args.names.now.fragment c.args.names.now.table) (name_of p)
     c.args.ty.now c.in_ok-expanded.expanded) c.in_namespace.ensures.place
     (subst (λ n. ExpandsTo (fragment_scope n.fragment n.table) (name_of c.in_namespace.result.ns.now) c.args.ty.now
