@@ -1,4 +1,4 @@
 mod Found
-mod Nesting
+mod Depths
 mod OneFault
 pub mod TreeOrError

@@ -5,7 +5,7 @@ use Rattle.std.proofs.lemmas.Grind.{common_steps}
 use Rattle.schema_syntax_tokens.specs.TokenLists.{kinds_of}
 use Rattle.schema_syntax.specs.Nesting.{opens, closes, IsTooDeep}
 use Rattle.schema_syntax.specs.declared.nesting.TheConstants.{DEEPEST}
-use Rattle.schema_syntax.proofs.Nesting.{one, deep_from, deep_found, deep_finds}
+use Rattle.schema_syntax.proofs.Depths.{one, deep_from, deep_found, deep_finds}
 use Rattle.schema_syntax.proofs.nesting.is_too_deep.Goals.{then-opens, else-opens, then-closes, else-closes}
 use Rattle.schema_syntax.proofs.nesting.is_too_deep.Goals as goal
 

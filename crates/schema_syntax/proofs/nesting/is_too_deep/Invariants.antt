@@ -1,6 +1,6 @@
 use Rattle.std.proofs.Common.{◌≡◌, ◌≤◌, drop}
 use Rattle.schema_syntax_tokens.specs.TokenLists.{kinds_of}
-use Rattle.schema_syntax.proofs.Nesting.{deep_from}
+use Rattle.schema_syntax.proofs.Depths.{deep_from}
 use Rattle.schema_syntax.proofs.nesting.is_too_deep.Given as goal
 
 abbrev pub invariant-loop-token : goal.invariant-loop-token
