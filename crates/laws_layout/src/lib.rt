@@ -1,0 +1,4 @@
+//! Laws of schema texts that are laid out anew.
+#![tactic(auto)]
+
+pub mod meanings;
