@@ -1,5 +1,5 @@
-//! Laws of what laid out texts mean. Each law is what its function ensures; the functions do nothing but cite laws below
-//! them.
+//! Laws of what laid out texts mean. Each law is what its function ensures; the functions do nothing but cite laws
+//! below them.
 ghost use Rattle.std.specs.Prelude.{ℕ, List};
 ghost use Rattle.cedar_names.specs.declared.extension_table.ExtensionTable.{ExtensionTable};
 ghost use Rattle.schema_layout_pieces.specs.LaidOut.{IsLaidOut, IsLaidOutKept, HaveSamePieces};
@@ -19,8 +19,8 @@ pub fn same_pieces_mean_the_same()
     blanks_do_not_matter();
 }
 
-/// A schema laid out, with its empty lines or without any, means what it meant before: it is valid under a table exactly
-/// where it was valid, with the same meaning.
+/// A schema laid out, with its empty lines or without any, means what it meant before: it is valid under a table
+/// exactly where it was valid, with the same meaning.
 pub fn laid_schemas_mean_the_same()
     ensures plain { (old new : List ℕ) (table : ExtensionTable) → HasTree old → IsLaidOut old new
         → MeanTheSame old new table }
