@@ -1,4 +1,4 @@
-ghost use Rattle.std.specs.Prelude.{◌≤◌, ◌<◌, ◌+◌, ℕ, List, length, IfOk, OnOk, IsErrOf};
+ghost use Rattle.std.specs.Prelude.{◌≡◌, ◌≤◌, ◌<◌, ◌+◌, ℕ, List, length, IfOk, OnOk, IsErrOf};
 ghost use Rattle.cedar_io.specs.Outside.{Rose, IsEnd};
 ghost use Rattle.cedar_io.specs.Input.{HadLeft, TookAtMost, max_input};
 
@@ -33,6 +33,9 @@ pub fn read_input<S: Source>(alloc: Global, source: &mut S) -> Result<Vec<u8>, R
     ensures failed { IsErrOf result ReadEnd.Failed → Rose (S.faults source.old) (S.faults source.new) }
     ensures taken { TookAtMost (max_input + 1) (S.left source.old) (S.left source.new) }
     ensures later { S.faults source.old ≤ S.faults source.new }
+
+    // A fault is counted exactly where a read failed, which ends the reading.
+    ensures steady { (IsErrOf result ReadEnd.Failed → ⊥) → S.faults source.new ≡ S.faults source.old }
 {
     let mut bytes = Vec::new(alloc);
     let mut piece = [0u8; PIECE];

@@ -1,4 +1,4 @@
-ghost use Rattle.std.specs.Prelude.{◌≡◌, ◌≤◌, ◌<◌, ◌↔◌, ◌++◌, Some, length, take, drop, min, IfOk, OnErr, IsErr};
+ghost use Rattle.std.specs.Prelude.{◌≡◌, ◌≤◌, ◌<◌, ◌↔◌, ◌++◌, Some, length, take, drop, min, IfOk, OnOk, OnErr, IsErr};
 ghost use Rattle.cedar_io.specs.Outside.{Rose, Took, IsEnd, IsListed, counted};
 
 use crate::calls::Calls;
@@ -57,6 +57,7 @@ impl Source for MemorySource {
         ensures err { OnErr result (self.new.left ≡ self.old.left) }
         ensures failed { OnErr result (Rose self.old.faults self.new.faults) }
         ensures later { self.old.faults ≤ self.new.faults }
+        ensures steady { OnOk result (self.new.faults ≡ self.old.faults) }
 
         // Which calls fail, what the others take, and what stands after each.
         ensures exact { IsErr result ↔ IsListed self.old.calls self.old.failing }

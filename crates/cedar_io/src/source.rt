@@ -1,4 +1,4 @@
-ghost use Rattle.std.specs.Prelude.{◌≡◌, ◌≤◌, ◌<◌, ℕ, List, Option, length, take, IfOk, OnErr};
+ghost use Rattle.std.specs.Prelude.{◌≡◌, ◌≤◌, ◌<◌, ℕ, List, Option, length, take, IfOk, OnOk, OnErr};
 ghost use Rattle.cedar_io.specs.Outside.{Rose, Took, IsEnd};
 
 use crate::failed::Failed;
@@ -21,5 +21,8 @@ pub trait Source {
         // A fault takes nothing, and is counted.
         ensures err { OnErr result (left self.new ≡ left self.old) }
         ensures failed { OnErr result (Rose (faults self.old) (faults self.new)) }
-        ensures later { faults self.old ≤ faults self.new };
+        ensures later { faults self.old ≤ faults self.new }
+
+        // Only a read that fails counts one.
+        ensures steady { OnOk result (faults self.new ≡ faults self.old) };
 }

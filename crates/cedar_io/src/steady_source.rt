@@ -1,4 +1,4 @@
-ghost use Rattle.std.specs.Prelude.{◌≡◌, ◌≤◌, ◌<◌, ◌++◌, Some, length, take, drop, min, IfOk, IsOkAnd, OnErr};
+ghost use Rattle.std.specs.Prelude.{◌≡◌, ◌≤◌, ◌<◌, ◌++◌, Some, length, take, drop, min, IfOk, OnOk, IsOkAnd, OnErr};
 ghost use Rattle.cedar_io.specs.Outside.{Rose, Took, IsEnd};
 
 use crate::failed::Failed;
@@ -47,6 +47,8 @@ impl Source for SteadySource {
         ensures failed { OnErr result (Rose (⟦<SteadySource as Source>⟧.faults self.old)
             (⟦<SteadySource as Source>⟧.faults self.new)) }
         ensures later { ⟦<SteadySource as Source>⟧.faults self.old ≤ ⟦<SteadySource as Source>⟧.faults self.new }
+        ensures steady { OnOk result (⟦<SteadySource as Source>⟧.faults self.new
+            ≡ ⟦<SteadySource as Source>⟧.faults self.old) }
 
         // Each call answers, with as much as there is and as fits.
         ensures exact { IsOkAnd result (λ n. n ≡ min (length buf.old) (length self.old.left)) }

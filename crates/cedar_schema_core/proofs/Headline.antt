@@ -9,15 +9,17 @@ use Rattle.cedar_names.specs.Meaning.{SchemaMeaning}
 use Rattle.cedar_names.specs.declared.extension_table.ExtensionTable.{ExtensionTable}
 use Rattle.cedar_schema_core.specs.declared.command.Command.{Command}
 use Rattle.cedar_schema_core.specs.declared.command.Command.TheVariants.{Recover}
-use Rattle.cedar_schema_core.specs.declared.status.Status.{Status}
-use Rattle.cedar_schema_core.specs.declared.status.Status.TheVariants.{Done, Refused, Usage, NotText, TooLong}
+use Rattle.cedar_runs.specs.declared.status.Status.{Status}
+use Rattle.cedar_runs.specs.declared.status.Status.TheVariants.{Done, Refused, Usage, NotText, TooLong}
 use Rattle.cedar_schema_core.specs.Answers.{Writes}
 use Rattle.cedar_schema_core.specs.Commands.{Asks, own_text}
 use Rattle.cedar_schema_core.specs.Meanings.{TextMeaning}
-use Rattle.cedar_schema_core.specs.Plan.{Report, IsAnswer, refused, done, IsInputPlan, too_long, not_text, answered}
+use Rattle.cedar_runs.specs.Reports.{Report, too_long, not_text, answered}
+use Rattle.cedar_schema_core.specs.Plan.{IsAnswer, refused, done, IsInputPlan}
 use Rattle.cedar_schema_core.specs.Plan.{IsPlan, usage, asked, made, done_report}
-use Rattle.cedar_schema_core.specs.Run.{Device, planned, read_fault, TookWhole, whole}
-use Rattle.cedar_schema_core.specs.Run.{out_failed, err_failed, IsRun, delivered, wanted_memory, NoneCounted}
+use Rattle.cedar_runs.specs.Runs.{Device, planned, read_fault, TookWhole, whole}
+use Rattle.cedar_runs.specs.Runs.{out_failed, err_failed, delivered, wanted_memory, NoneCounted}
+use Rattle.cedar_schema_core.specs.Run.{IsToolRun}
 use Rattle.cedar_schema_core.specs.Headline.{InputMeans, WroteMeaning, WroteNothing}
 use Rattle.cedar_schema_core.proofs.Constructed.{warned, valid_planned}
 
@@ -129,10 +131,10 @@ module _ (words : List (List ℕ)) (table : ExtensionTable)
       (λ d. let k = done_means bytes report p d in (k.meaning, k.input)),
     )
 
-    pub recovers : (status : Status) → IsRun words source out err status → NoneCounted source out err → Recovers status
-    recovers status (delivered report (planned all had p l) (whole o e)) n =
+    pub recovers : (status : Status) → IsToolRun words source out err status → NoneCounted source out err → Recovers status
+    recovers status (delivered report (planned all had p l s) (whole o e)) n =
         both report (subst (λ b. IsPlan words b report) (sym (told source.before bytes all left had)) p) o
-    recovers status (delivered report (read_fault c i w r) (whole o e)) n = absurd (n.none_read r)
+    recovers status (delivered report (read_fault i w) (whole o e)) n = absurd (n.none_read w)
     recovers status (delivered report h (out_failed f s)) n = absurd (n.none_out f.counted)
     recovers status (delivered report h (err_failed o f)) n = absurd (n.none_err f.counted)
-    recovers status (wanted_memory o e) n = inl (record { memory = refl; out_same = o; err_same = e })
+    recovers status (wanted_memory u o e) n = inl (record { memory = refl; out_same = o; err_same = e })

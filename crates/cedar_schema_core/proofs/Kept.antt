@@ -10,7 +10,8 @@ use Rattle.cedar_schema_core.specs.declared.json_texts.JsonForm.{JsonForm}
 use Rattle.cedar_schema_core.specs.Commands.{Asks}
 use Rattle.cedar_schema_core.specs.Json.{JsonMeaning}
 use Rattle.cedar_schema_core.specs.Meanings.{TextMeaning}
-use Rattle.cedar_schema_core.specs.Run.{Device, Completed, KeepsMeaning}
+use Rattle.cedar_runs.specs.Runs.{Device}
+use Rattle.cedar_schema_core.specs.Run.{Completed, KeepsMeaning}
 
 module _ (same : (closing : Bool) (text : List ℕ) (table : ExtensionTable) (m : SchemaMeaning)
     → TextMeaning text table m → TextMeaning (schema_text closing m) table m)

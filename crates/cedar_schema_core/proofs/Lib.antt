@@ -1,5 +1,5 @@
 mod Words
-mod Tables
+mod OneTable
 mod OnePlan
 mod Answered
 mod Counted

@@ -10,14 +10,16 @@ use Rattle.cedar_schema_core_faults.specs.declared.recover_error.RecoverError.{R
 use Rattle.cedar_schema_core_faults.specs.declared.recover_error.RecoverError.TheVariants.{Memory}
 use Rattle.std.specs.Str.{encode_utf8_all}
 use Rattle.cedar_schema_core_faults.specs.Told.{fault_text}
-use Rattle.cedar_schema_core.specs.declared.status.Status.TheVariants.{Refused}
+use Rattle.cedar_runs.specs.declared.status.Status.TheVariants.{Refused}
 use Rattle.cedar_schema_core.specs.Answers.{Writes, RefusesText, IsWrittenBy}
 use Rattle.cedar_schema_core.specs.Commands.{IsTableInOrder, Asks, recover, recover_with, check, to_json, from_json}
 use Rattle.cedar_schema_core.specs.Commands.{from_deprecated}
 use Rattle.cedar_schema_core.specs.Commands.{generate, own_text, ReadsInput}
-use Rattle.cedar_schema_core.specs.Plan.{Report, IsAnswer, refused, done, done_report, IsInputPlan, too_long, not_text}
-use Rattle.cedar_schema_core.specs.Plan.{answered, IsPlan, usage, asked, made}
-use Rattle.cedar_schema_core.proofs.Tables.{one_table_of_texts, one_table_of_names}
+use Rattle.cedar_runs.specs.Reports.{Report, too_long, not_text}
+use Rattle.cedar_schema_core.specs.Plan.{IsAnswer, refused, done, done_report, IsInputPlan}
+use Rattle.cedar_runs.specs.Reports.{answered}
+use Rattle.cedar_schema_core.specs.Plan.{IsPlan, usage, asked, made}
+use Rattle.cedar_schema_core.proofs.OneTable.{one_table_of_texts, one_table_of_names}
 use Rattle.cedar_schema_core.proofs.Words.{never_both}
 
 -- words ask for one command

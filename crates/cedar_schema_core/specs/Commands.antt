@@ -20,6 +20,13 @@ pub record IsTableInOrder (names : List (List ℕ)) (table : ExtensionTable) : T
   pub of : IsTableOf names table
   pub rise : IsStrictlySortedBy (λ a b. text_cmp a.id.text b.id.text) table.names
 
+-- the words ask for a table: the first of these two words alone for all extensions, or the second before the names of
+-- others
+pub data AsksForTable (plain with : List ℕ) (words : List (List ℕ)) (table : ExtensionTable) : Type 0 where
+  standard : words ≡ plain ∷ [] → IsStandard table → AsksForTable plain with words table
+  named : (names : List (List ℕ)) → words ≡ with ∷ names → IsTableInOrder names table
+      → AsksForTable plain with words table
+
 -- the words ask for the command: `recover-with` and the names of a lawful table, `generate` and a size in decimal, or
 -- the one word of another command, which tells the form of JSON that is read
 pub data Asks (words : List (List ℕ)) : Command → Type 0 where

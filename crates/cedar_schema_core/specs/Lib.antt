@@ -1,4 +1,3 @@
-pub mod Statuses
 pub mod Meanings
 pub mod Recovery
 pub mod Json
@@ -7,5 +6,4 @@ pub mod Commands
 pub mod Answers
 pub mod Plan
 pub mod Run
-pub mod Replies
 pub mod Headline

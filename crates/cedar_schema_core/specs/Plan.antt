@@ -1,38 +1,20 @@
 -- What the program is to do, for its words and its input.
-use Rattle.std.specs.Prelude.{◌≡◌, ◌≢◌, ◌<◌, ◌≤◌, ℕ, List, [], ◌++◌, length, codes, IsUtf8, Some}
+use Rattle.std.specs.Prelude.{◌≡◌, ◌≢◌, ℕ, List, [], ◌++◌, codes, Some}
 use Rattle.std.specs.List.{flat_map}
 use Rattle.std.specs.Str.{encode_utf8_all}
-use Rattle.cedar_io.specs.Input.{max_input}
+use Rattle.cedar_runs.specs.Reports.{Report, IsTextReport}
 use Rattle.schema_convert_errors.specs.WarningTexts.{warning_text}
 use Rattle.schema_convert_errors.specs.declared.warnings.SchemaWarning.{SchemaWarning}
 use Rattle.cedar_schema_core.specs.declared.command.Command.{Command}
-use Rattle.cedar_schema_core.specs.declared.status.Status.{Status}
-use Rattle.cedar_schema_core.specs.declared.status.Status.TheVariants.{Done, Refused, Usage, ReadFault, NotText}
-use Rattle.cedar_schema_core.specs.declared.status.Status.TheVariants.{TooLong}
+use Rattle.cedar_runs.specs.declared.status.Status.TheVariants.{Done, Refused, Usage}
 use Rattle.cedar_schema_core_faults.specs.declared.recover_error.RecoverError.{RecoverError}
 use Rattle.cedar_schema_core_faults.specs.declared.recover_error.RecoverError.TheVariants.{Memory}
 use Rattle.cedar_schema_core_faults.specs.Told.{fault_text}
 use Rattle.cedar_schema_core.specs.Commands.{Asks, own_text, ReadsInput}
 use Rattle.cedar_schema_core.specs.Answers.{IsWrittenBy, IsRefusedBy}
 
--- a status, and what goes to the output and to the error output, as bytes
-pub record Report : Type 0 where
-  pub status : Status
-  pub out : List ℕ
-  pub err : List ℕ
-
 abbrev pub usage_report : Report
 usage_report = record { status = Usage; out = []; err = codes "usage: cedar_schema_tool COMMAND [NAME..]\n" }
-
--- the report where a read failed
-abbrev pub read_fault_report : Report
-read_fault_report = record { status = ReadFault; out = []; err = codes "error: reading failed\n" }
-
-abbrev pub too_long_report : Report
-too_long_report = record { status = TooLong; out = []; err = codes "error: the input is longer than 16777216 bytes\n" }
-
-abbrev pub not_text_report : Report
-not_text_report = record { status = NotText; out = []; err = codes "error: the input is not UTF-8\n" }
 
 -- the report where the input is refused: what is told of it goes to the error output
 abbrev pub refused_report : List ℕ → RecoverError → Report
@@ -53,12 +35,9 @@ pub data IsAnswer (c : Command) (text : List ℕ) : Report → Type 0 where
   done : (out : List ℕ) (warnings : List SchemaWarning) → IsWrittenBy c text out warnings
       → IsAnswer c text (done_report out warnings)
 
--- the report of a command on an input: one case for each cause
-pub data IsInputPlan (c : Command) (bytes : List ℕ) : Report → Type 0 where
-  too_long : max_input < length bytes → IsInputPlan c bytes too_long_report
-  not_text : length bytes ≤ max_input → (IsUtf8 bytes → ⊥) → IsInputPlan c bytes not_text_report
-  answered : length bytes ≤ max_input → IsUtf8 bytes → {report : Report} → IsAnswer c bytes report
-      → IsInputPlan c bytes report
+-- the report of a command on an input: it is too long, or no text, or what the command answers to the text
+abbrev pub IsInputPlan : Command → List ℕ → Report → Type 0
+IsInputPlan c = IsTextReport (IsAnswer c)
 
 -- the report for these words and this input, where no read fails: the words ask for no command, for one that reads the
 -- input, or for one that makes its own text, which is never refused

@@ -1,9 +1,9 @@
--- What a run did. A source or a sink is known by what it tells before and after.
-use Rattle.std.specs.Prelude.{◌≡◌, ◌≢◌, ◌↔◌, ℕ, List, [], Option, MatchOption}
+-- What a run of the program did.
+use Rattle.std.specs.Prelude.{◌≡◌, ◌↔◌, ℕ, List, [], MatchOption}
 use Rattle.std.specs.List.{flat_map}
-use Rattle.cedar_io.specs.Outside.{Rose, IsEnd, Appends, AppendsPart}
-use Rattle.cedar_schema_core.specs.declared.status.Status.{Status}
-use Rattle.cedar_schema_core.specs.declared.status.Status.TheVariants.{WriteFault, TooLong, Memory}
+use Rattle.cedar_io.specs.Outside.{IsEnd, Appends}
+use Rattle.cedar_runs.specs.declared.status.Status.{Status}
+use Rattle.cedar_runs.specs.Runs.{Device, AsksToRead, IsRun}
 use Rattle.cedar_io.specs.Input.{HadLeft}
 use Rattle.std.specs.Str.{encode_utf8_all}
 use Rattle.cedar_names.specs.Meaning.{SchemaMeaning}
@@ -17,60 +17,22 @@ use Rattle.cedar_schema_core.specs.Json.{JsonMeaning}
 use Rattle.cedar_schema_core.specs.Meanings.{TextMeaning}
 use Rattle.cedar_schema_core.specs.Commands.{Asks, own_text, ReadsInput}
 use Rattle.cedar_schema_core.specs.Answers.{IsWrittenBy}
-use Rattle.cedar_schema_core.specs.Plan.{Report, IsPlan, read_fault_report, warning_line}
+use Rattle.cedar_schema_core.specs.Plan.{IsPlan, warning_line}
 
--- a source or a sink before and after: what it tells, its count of faults, and that it stands as before
-pub record Device : Type 1 where
-  pub before : Option (List ℕ)
-  pub after : Option (List ℕ)
-  pub faults_before : ℕ
-  pub faults_after : ℕ
-  pub Same : Type 0
+-- the words ask for a command that reads the input
+abbrev pub AsksForInput : List (List ℕ) → Type 0
+AsksForInput words = AsksToRead Asks ReadsInput words
 
--- the source or sink that was old and is new, by what its kind tells and counts
-abbrev pub device : {D : Type 0} → (D → Option (List ℕ)) → (D → ℕ) → D → D → Device
-device told faults old new = record
-    { before = told old; after = told new; faults_before = faults old; faults_after = faults new; Same = new ≡ old }
+-- the run of the program, by its cause: what is planned for the words and the input was written, or a device failed, or
+-- memory was out before the first write
+abbrev pub IsToolRun : List (List ℕ) → Device → Device → Device → Status → Type 0
+IsToolRun words source out err status = IsRun (AsksForInput words) (IsPlan words) source out err status
 
--- how the source stands: as before where the words ask for no command that reads it, and at its end where a command
--- read it whole
-pub record LeftAs (words : List (List ℕ)) (source : Device) (status : Status) : Type 0 where
-  pub unread : ((c : Command) → Asks words c → ReadsInput c → ⊥) → source.Same
-  pub end : (c : Command) → Asks words c → ReadsInput c → status ≢ TooLong → IsEnd source.after
-
--- the report on the words and the source: the plan for the bytes that were left, or a read fault, which was counted
-pub data IsReported (words : List (List ℕ)) (source : Device) : Report → Type 0 where
-  planned : (bytes : List ℕ) → HadLeft source.before bytes → {report : Report} → IsPlan words bytes report
-      → LeftAs words source report.status → IsReported words source report
-  read_fault : (c : Command) → Asks words c → ReadsInput c → Rose source.faults_before source.faults_after
-      → IsReported words source read_fault_report
-
--- the text was taken whole; where there is none the sink stands as before
-pub record TookWhole (sink : Device) (text : List ℕ) : Type 0 where
-  pub took : Appends sink.before text sink.after
-  pub nothing : text ≡ [] → sink.Same
-
--- the sink failed, and took a front of the text that isn't all of it
-pub record FailedWithin (sink : Device) (text : List ℕ) : Type 0 where
-  pub took : AppendsPart sink.before text sink.after
-  pub counted : Rose sink.faults_before sink.faults_after
-
--- how the texts of a report were written: both whole, or a sink failed, which ended the run
-pub data IsDelivered (out err : Device) (report : Report) : Status → Type 0 where
-  whole : TookWhole out report.out → TookWhole err report.err → IsDelivered out err report report.status
-  out_failed : FailedWithin out report.out → err.Same → IsDelivered out err report WriteFault
-  err_failed : TookWhole out report.out → FailedWithin err report.err → IsDelivered out err report WriteFault
-
--- the run, by its cause: a report was delivered, or memory was out before the first write
-pub data IsRun (words : List (List ℕ)) (source out err : Device) : Status → Type 0 where
-  delivered : (report : Report) → {status : Status} → IsReported words source report
-      → IsDelivered out err report status → IsRun words source out err status
-  wanted_memory : out.Same → err.Same → IsRun words source out err Memory
-
--- the whole input was read, and nothing is left
+-- the whole input was read, nothing is left, and no read failed
 pub record ReadWhole (source : Device) (bytes : List ℕ) : Type 0 where
   pub read : HadLeft source.before bytes
   pub end : IsEnd source.after
+  pub steady : source.faults_after ≡ source.faults_before
 
 -- what the command works on: the whole input, or its own text, where the source stands as before
 abbrev pub WorksOn : Command → Device → List ℕ → Type 0
@@ -117,9 +79,3 @@ KeepsMeaning (Check table) source out = Unit {0}
 KeepsMeaning (ToJson table) source out = Unit {0}
 KeepsMeaning (FromJson form table) source out = RecoversJson form table source out
 KeepsMeaning (Generate size table) source out = Unit {0}
-
--- no count of faults rose
-pub record NoneCounted (source out err : Device) : Type 0 where
-  pub none_read : Rose source.faults_before source.faults_after → ⊥
-  pub none_out : Rose out.faults_before out.faults_after → ⊥
-  pub none_err : Rose err.faults_before err.faults_after → ⊥

@@ -1,13 +1,12 @@
 ghost use Rattle.std.specs.Prelude.{◌≡◌, ◌≤◌, ℕ, [], ◌∷◌, IfOk, MatchOption, map, decimal};
-ghost use Rattle.std.specs.List.Sorted.{IsStrictlySortedBy};
 ghost use Rattle.std.specs.Str.{bytes_eq};
 ghost use Rattle.std.specs.String.{string_bytes};
-ghost use Rattle.cedar_data.specs.Text.{text_cmp};
 ghost use Rattle.schema_generate.specs.Generated.{max_size};
 ghost use Rattle.cedar_schema_core.specs.Commands.{Asks, IsTableInOrder, IsStandard};
 
 use crate::json_texts::JsonForm;
-use cedar_names::{ExtensionTable, TableError};
+use crate::tables::table_of_names;
+use cedar_names::ExtensionTable;
 use itoa::Buffer;
 use schema_generate::MAX_SIZE;
 use std::alloc::{AllocError, Global};
@@ -83,13 +82,9 @@ fn recover_with(alloc: Global, names: &[String]) -> Result<Option<Command>, Allo
         (λ c. (table : ExtensionTable) × (c ≡ Command.Recover table)
         × IsTableInOrder (map string_bytes names.now) table)) }
 {
-    match ExtensionTable::new(alloc, names) {
-        Ok(table) => {
-            see_order(&table);
-            Ok(Some(Command::Recover(table)))
-        }
-        Err(TableError::Memory) => Err(AllocError),
-        Err(_) => Ok(None),
+    match table_of_names(alloc, names)? {
+        Some(table) => Ok(Some(Command::Recover(table))),
+        None => Ok(None),
     }
 }
 
@@ -129,11 +124,4 @@ fn generate(alloc: Global, sizes: &[String]) -> Result<Option<Command>, AllocErr
         return Ok(None);
     };
     Ok(Some(Command::Generate(size, ExtensionTable::all_available(alloc)?)))
-}
-
-// The names of a table stand in the order of their texts.
-fn see_order(table: &ExtensionTable)
-    ensures { IsStrictlySortedBy (λ a b. text_cmp a.id.text b.id.text) table.now.names }
-{
-    let _names = table.names.as_slice();
 }

@@ -21,7 +21,8 @@ ghost use Rattle.laws_build.specs.Closure.Closed.{IsClosed};
 ghost use Rattle.laws_build.specs.Closure.HalfFilled.{IsHalfFilled};
 ghost use Rattle.cedar_schema_core.specs.Recovery.{IsRecovered, IsRefusal};
 ghost use Rattle.cedar_schema_core.specs.declared.recover.Recovered.{Recovered};
-ghost use Rattle.cedar_schema_core.specs.Plan.{Report, IsPlan, done_report};
+ghost use Rattle.cedar_runs.specs.Reports.{Report};
+ghost use Rattle.cedar_schema_core.specs.Plan.{IsPlan, done_report};
 ghost use Rattle.cedar_schema_core_faults.specs.Told.{fault_text};
 
 use crate::command::Command;
@@ -77,7 +78,7 @@ pub fn refused_or_valid()
     one_fragment_meaning();
 }
 
-/// What is told of the refusals of a text in UTF-8 is one: it is refused for one reason, at one place. Being out of
+/// A text in UTF-8 is refused for one reason, at one place: all reports of its refusals are the same. Being out of
 /// memory is no refusal.
 pub fn one_refusal()
     ensures { (text : List ℕ) (table : ExtensionTable) (e other : RecoverError) → IsUtf8 text → e ≢ RecoverError.Memory
@@ -93,8 +94,8 @@ pub fn one_refusal()
     one_build_fault();
 }
 
-/// A JSON text in either form has at most one meaning under a table, what is told of its refusals is one, and a text
-/// that is refused is not valid. Being out of memory is no refusal.
+/// A JSON text in either form has at most one meaning under a table, all reports of its refusals are the same, and a
+/// text that is refused is not valid. Being out of memory is no refusal.
 pub fn one_json_reading()
     ensures meaning { (form : JsonForm) (text : List ℕ) (table : ExtensionTable) (m n : SchemaMeaning)
         → JsonMeaning form text table m → JsonMeaning form text table n → m ≡ n }

@@ -7,13 +7,15 @@ pub mod json_texts;
 pub mod laws;
 mod output;
 pub mod recover;
-pub mod reply;
+mod reply;
 pub mod run;
-pub mod status;
-pub mod std_streams;
+pub mod tables;
 
 pub use cedar_data::Diagnostic;
 pub use cedar_io::{MAX_INPUT, ReadEnd, read_input, write_text};
+pub use cedar_runs::{
+    Call, Program, Reply, Status, StdSink, StdSource, call_of, deliver, run_program,
+};
 pub use cedar_schema_core_faults::{RecoverError, fault_text};
 pub use command::Command;
 pub use json_texts::{JsonForm, recover_json, to_json_text};
@@ -24,7 +26,6 @@ pub use laws::{
     texts_of_closed_meanings_mean_them, texts_of_json_mean_the_same, valid_texts_are_planned,
 };
 pub use recover::{Recovered, recover_schema};
-pub use run::run_tool;
+pub use run::{reply_to, run_tool};
 pub use schema_generate::{MAX_SIZE, generate_text};
-pub use status::Status;
-pub use std_streams::{StdSink, StdSource};
+pub use tables::{one_table, table_of_names, table_of_words};

@@ -1,36 +1,10 @@
-ghost use Rattle.std.specs.Prelude.{◌≡◌, ◌++◌, [], IfOk, OnOk};
+ghost use Rattle.std.specs.Prelude.{◌≡◌, ◌++◌, IfOk, OnOk};
 ghost use Rattle.std.specs.List.{flat_map};
 ghost use Rattle.cedar_schema_core.specs.Plan.{warning_line};
 
-use crate::status::Status;
 use cedar_data::{Diagnostic, Text, around};
 use schema_convert::SchemaWarning;
 use std::alloc::{AllocError, Global};
-
-/// How a run is to end, and what it is to write: all that is taken from memory before the first write.
-#[derive(Drop)]
-pub struct Reply {
-    pub status: Status,
-    /// What goes to the output.
-    pub out: Text,
-    /// What goes to the error output.
-    pub err: Text,
-}
-
-impl Reply {
-    ghost use Rattle.cedar_schema_core.specs.Replies.{report_of};
-
-    /// The reply whose one line goes to the error output.
-    pub fn line(alloc: Global, status: Status, line: &str) -> Result<Reply, AllocError>
-        ensures { IfOk result (λ reply. report_of reply ≡ record { status = status; out = []; err = line.now }) }
-    {
-        Ok(Reply {
-            status,
-            out: Text::new(alloc),
-            err: Text::from_str(alloc, line)?,
-        })
-    }
-}
 
 // Adds a line for a warning.
 fn push_warning(alloc: Global, lines: &mut Text, warning: &SchemaWarning) -> Result<(), AllocError>

@@ -7,11 +7,10 @@ ghost use Rattle.cedar_names.specs.Meaning.{SchemaMeaning};
 ghost use Rattle.cedar_names.specs.declared.extension_table.ExtensionTable.{ExtensionTable};
 ghost use Rattle.cedar_schema_core.specs.Commands.{Asks, ReadsInput, own_text};
 ghost use Rattle.cedar_schema_core.specs.Headline.{InputMeans, WroteMeaning, WroteNothing};
-ghost use Rattle.cedar_schema_core.specs.Plan.{Report, IsPlan, IsInputPlan, IsAnswer, done_report, refused_report};
-ghost use Rattle.cedar_schema_core.specs.Plan.{read_fault_report};
-ghost use Rattle.cedar_schema_core.specs.Run.{device, IsReported, IsDelivered, IsRun, Completed, KeepsMeaning};
-ghost use Rattle.cedar_schema_core.specs.Run.{NoneCounted};
-ghost use Rattle.cedar_schema_core.specs.Replies.{report_of};
+ghost use Rattle.cedar_schema_core.specs.Plan.{IsPlan, IsInputPlan, IsAnswer, done_report, refused_report};
+ghost use Rattle.cedar_schema_core.specs.Run.{IsToolRun, Completed, KeepsMeaning};
+ghost use Rattle.cedar_runs.specs.Reports.{Report, report_of, read_fault_report};
+ghost use Rattle.cedar_runs.specs.Runs.{device, NoneCounted};
 
 use crate::command::Command;
 use crate::laws::{
@@ -19,20 +18,14 @@ use crate::laws::{
     one_plan, refused_or_valid, texts_of_json_mean_the_same,
 };
 use crate::output::{Output, output_of, own_text_of};
-use crate::reply::{Reply, warning_lines};
-use crate::status::Status;
+use crate::reply::warning_lines;
 use cedar_data::Text;
-use cedar_io::{ReadEnd, Sink, Source, read_input, write_text};
+use cedar_io::{MAX_INPUT, Sink, Source};
+use cedar_runs::{Program, Reply, Status, run_program};
 use cedar_schema_core_faults::{RecoverError, fault_text};
 use std::alloc::{AllocError, Global};
 
 const USAGE: &str = "usage: cedar_schema_tool COMMAND [NAME..]\n";
-
-const READ_FAULT: &str = "error: reading failed\n";
-
-const TOO_LONG: &str = "error: the input is longer than 16777216 bytes\n";
-
-const NOT_TEXT: &str = "error: the input is not UTF-8\n";
 
 // The reply where nothing is written of a text.
 fn refused_reply(alloc: Global, text: &str, fault: &RecoverError) -> Result<Reply, AllocError>
@@ -78,7 +71,7 @@ fn input_reply(alloc: Global, command: &Command, bytes: &[u8]) -> Result<Reply, 
 {
     match str::from_utf8(bytes) {
         Ok(text) => text_reply(alloc, command, text),
-        Err(_) => Reply::line(alloc, Status::NotText, NOT_TEXT),
+        Err(_) => Reply::not_text(alloc),
     }
 }
 
@@ -93,58 +86,50 @@ fn own_reply(alloc: Global, command: &Command, text: &str) -> Result<Reply, Allo
     text_reply(alloc, command, text)
 }
 
-// Reads the input of a command, and takes all memory that the reply needs.
-fn read_reply<S: Source>(
-    alloc: Global,
-    command: &Command,
-    source: &mut S,
-) -> Result<Reply, AllocError>
-    ensures reported { (words : List (List ℕ)) → Asks words command.now → ReadsInput command.now
-        → IfOk result (λ reply. IsReported words (device S.left S.faults source.old source.new) (report_of reply)) }
-    ensures taken { TookAtMost (max_input + 1) (S.left source.old) (S.left source.new) }
-    ensures later { S.faults source.old ≤ S.faults source.new }
+/// The reply of a command to an input in memory: what a run of the command would end with and write, where no device
+/// fails. It errs when out of memory.
+pub fn reply_to(alloc: Global, command: &Command, bytes: &[u8]) -> Result<Reply, AllocError>
+    ensures { IfOk result (λ reply. IsInputPlan command.now bytes.now (report_of reply)) }
 {
-    match read_input(alloc, source) {
-        Ok(bytes) => input_reply(alloc, command, &bytes),
-        Err(ReadEnd::Failed) => Reply::line(alloc, Status::ReadFault, READ_FAULT),
-        Err(ReadEnd::TooLong) => Reply::line(alloc, Status::TooLong, TOO_LONG),
-        Err(ReadEnd::Memory) => Err(AllocError),
+    if bytes.len() > MAX_INPUT {
+        return Reply::too_long(alloc);
     }
+    input_reply(alloc, command, bytes)
 }
 
-// Reads the input where the words ask for a command that reads it, and takes all memory that the run needs.
-fn prepare<S: Source>(alloc: Global, words: &[String], source: &mut S) -> Result<Reply, AllocError>
-    ensures reported { let source_device = device S.left S.faults source.old source.new in
-        IfOk result (λ reply. IsReported (map string_bytes words.now) source_device (report_of reply)) }
-    ensures taken { TookAtMost (max_input + 1) (S.left source.old) (S.left source.new) }
-    ensures later { S.faults source.old ≤ S.faults source.new }
-{
-    let Some(command) = Command::of_words(alloc, words)? else {
-        return Reply::line(alloc, Status::Usage, USAGE);
-    };
-    match own_text_of(alloc, &command)? {
-        Some(text) => own_reply(alloc, &command, text.as_str()),
-        None => read_reply(alloc, &command, source),
-    }
-}
+impl Program for Command {
+    ghost asks = { Asks };
 
-// Writes what the reply says. The first sink that fails ends the run.
-fn deliver<O: Sink, E: Sink>(reply: &Reply, out: &mut O, err: &mut E) -> Status
-    ensures delivered { let out_device = device O.taken O.faults out.old out.new in
-        let err_device = device E.taken E.faults err.old err.new in
-        IsDelivered out_device err_device (report_of reply.now) result }
-    ensures out_later { O.faults out.old ≤ O.faults out.new }
-    ensures err_later { E.faults err.old ≤ E.faults err.new }
-    ensures out_sure { length (report_of reply.now).out ≤ O.sure out.old → O.faults out.new ≡ O.faults out.old }
-    ensures err_sure { length (report_of reply.now).err ≤ E.sure err.old → E.faults err.new ≡ E.faults err.old }
-{
-    let Ok(()) = write_text(out, reply.out.as_str()) else {
-        return Status::WriteFault;
-    };
-    let Ok(()) = write_text(err, reply.err.as_str()) else {
-        return Status::WriteFault;
-    };
-    reply.status
+    ghost reads = { ReadsInput };
+
+    ghost planned = { IsPlan };
+
+    fn of_words(alloc: Global, words: &[String]) -> Result<Option<Command>, AllocError> {
+        Command::of_words(alloc, words)
+    }
+
+    fn usage_reply(alloc: Global) -> Result<Reply, AllocError> {
+        Reply::line(alloc, Status::Usage, USAGE)
+    }
+
+    fn own_reply(&self, alloc: Global) -> Result<Option<Reply>, AllocError> {
+        match own_text_of(alloc, self)? {
+            Some(text) => Ok(Some(own_reply(alloc, self, text.as_str())?)),
+            None => Ok(None),
+        }
+    }
+
+    fn input_reply(&self, alloc: Global, bytes: &[u8]) -> Result<Reply, AllocError> {
+        input_reply(alloc, self, bytes)
+    }
+
+    fn one_command() {}
+
+    fn long_inputs() {}
+
+    fn one_plan() {
+        one_plan();
+    }
 }
 
 /// Runs the program: reads the source where the words ask for it, and writes to the two sinks. `words` are those after
@@ -173,7 +158,7 @@ pub fn run_tool<S: Source, O: Sink, E: Sink>(
     ensures run { let source_device = device S.left S.faults source.old source.new in
         let out_device = device O.taken O.faults out.old out.new in
         let err_device = device E.taken E.faults err.old err.new in
-        IsRun (map string_bytes words.now) source_device out_device err_device result }
+        IsToolRun (map string_bytes words.now) source_device out_device err_device result }
 
     // Done: the words ask for a command, the input, or the text that the command makes, is valid, what the command
     // writes of its meaning was written, and nothing else.
@@ -218,8 +203,5 @@ pub fn run_tool<S: Source, O: Sink, E: Sink>(
     canonical_texts_mean_the_same();
     canonical_texts_tell_meanings_apart();
     texts_of_json_mean_the_same();
-    match prepare(alloc, words, source) {
-        Ok(reply) => deliver(&reply, out, err),
-        Err(_) => Status::Memory,
-    }
+    run_program::<Command, S, O, E>(alloc, words, source, out, err)
 }

@@ -1,4 +1,4 @@
-//! Why nothing is recovered from a text, and the lines that a person is told of it.
+//! Why nothing is recovered from a text, and the lines that report it.
 #![tactic(auto)]
 
 pub mod numbers;

@@ -1,4 +1,4 @@
-//! What a person is told of a refusal.
+//! The lines that report a refusal.
 ghost use Rattle.std.specs.Prelude.{◌≡◌, ◌++◌, map, codes, decimal, IfOk, OnOk};
 ghost use Rattle.std.specs.List.{flat_map};
 ghost use Rattle.cedar_schema_core_faults.specs.Told.{label_line, help_line, told, told_lines, told_text, fault_text};

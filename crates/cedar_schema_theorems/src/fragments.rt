@@ -98,8 +98,8 @@ pub fn a_fragment_has_a_fault_or_a_meaning()
     fragments_have_a_fault_or_a_meaning();
 }
 
-/// What is told of the fault that keeps a fragment from being a schema is one: its text, its advice and its places. The
-/// entries of the fragment are to be in the order of their names, as those of each fragment in memory are.
+/// All reports of the fault that keeps a fragment from being a schema are the same, with the same text, advice and
+/// places. The entries of the fragment are to be in the order of their names, as those of each fragment in memory are.
 pub fn faults_are_told_alike()
     ensures { (f : Fragments Raw as_written) (table : ExtensionTable) (error other : SchemaError) → IsInOrder f
         → BuildFault f table error → BuildFault f table other → AreToldAlike error other }

@@ -15,8 +15,9 @@ ghost use Rattle.cedar_schema_core.specs.Headline.{InputMeans, WroteMeaning, Wro
 ghost use Rattle.cedar_schema_core.specs.Meanings.{TextMeaning, IsValid, Warns};
 ghost use Rattle.cedar_schema_core.specs.Recovery.{IsRecovered, IsRefusal};
 ghost use Rattle.cedar_schema_core.specs.declared.recover.Recovered.{Recovered};
-ghost use Rattle.cedar_schema_core.specs.Plan.{Report, IsPlan, done_report};
-ghost use Rattle.cedar_schema_core.specs.Run.{device, NoneCounted};
+ghost use Rattle.cedar_runs.specs.Reports.{Report};
+ghost use Rattle.cedar_schema_core.specs.Plan.{IsPlan, done_report};
+ghost use Rattle.cedar_runs.specs.Runs.{device, NoneCounted};
 ghost use Rattle.cedar_schema_core_faults.specs.Told.{fault_text};
 
 use cedar_io::{Sink, Source};
@@ -113,7 +114,7 @@ pub fn refused_is_not_valid()
     refused_or_valid();
 }
 
-/// A text in UTF-8 is refused for one reason, at one place: what is told of its refusals under a table is one text.
+/// A text in UTF-8 is refused for one reason, at one place: all reports of its refusals under a table are the same.
 /// Being out of memory is no refusal.
 pub fn a_text_has_one_refusal()
     ensures { (text : List ℕ) (table : ExtensionTable) (e other : RecoverError) → IsUtf8 text

@@ -1,10 +1,8 @@
 //! The program: reads a schema and writes its canonical text, or what is in it.
 #![tactic(auto)]
 
-use cedar_schema_core::{Status, StdSink, StdSource, run_tool};
-use std::io::Write;
+use cedar_schema_core::{Call, StdSink, StdSource, call_of, run_tool};
 use std::process::ExitCode;
-use std::{env, io};
 
 const VERSION: &str = "cedar_schema_tool 0.1.0\n";
 
@@ -34,57 +32,16 @@ exit status: 0 done, 1 the schema is refused, 2 no such command, 3 reading faile
   entity User in [Group];
 ";
 
-// The words after the program's name. A word that is not UTF-8 is no word of a command, so that there are none then.
-fn words_given(rt: &HostRuntime) -> io::Result<Vec<String>> {
-    let mut words = Vec::new(rt.alloc());
-    match env::args(rt) {
-        Ok(given) => {
-            for word in given.skip(1) {
-                words.push(word)?;
-            }
-        }
-        Err(error) => {
-            if error.kind() != io::ErrorKind::InvalidData {
-                return Err(error);
-            }
-        }
-    }
-    Ok(words)
-}
-
-// What is told of the program itself, where one word asks for it.
-fn told(words: &[String]) -> Option<&'static str> {
-    match words {
-        [word] => match word.as_str() {
-            "--help" => Some(HELP),
-            "--version" => Some(VERSION),
-            _ => None,
-        },
-        _ => None,
-    }
-}
-
-// Writes a text to standard output.
-fn tell(rt: &HostRuntime, text: &str) -> Status {
-    match rt.stdout().write_all(text.as_bytes()) {
-        Ok(()) => Status::Done,
-        Err(_) => Status::WriteFault,
-    }
-}
-
 fn main(rt: HostRuntime) -> ExitCode {
-    let status = match words_given(&rt) {
-        Ok(words) => match told(&words) {
-            Some(text) => tell(&rt, text),
-            None => run_tool(
-                rt.alloc(),
-                &words,
-                &mut StdSource::new(rt.stdin()),
-                &mut StdSink::new(rt.stdout()),
-                &mut StdSink::new(rt.stderr()),
-            ),
-        },
-        Err(_) => Status::Memory,
+    let status = match call_of(&rt, HELP, VERSION) {
+        Call::Run(words) => run_tool(
+            rt.alloc(),
+            &words,
+            &mut StdSource::new(rt.stdin()),
+            &mut StdSink::new(rt.stdout()),
+            &mut StdSink::new(rt.stderr()),
+        ),
+        Call::Ended(status) => status,
     };
     ExitCode::from(status.code())
 }

@@ -21,8 +21,8 @@ pub fn one_fragment_meaning()
     types_stand_for_one::<RawName>();
 }
 
-/// What is told of the fault of a fragment under a table is one: its text, its advice and its places. The entries of
-/// the fragment are to be in the order of their names.
+/// All reports of the fault of a fragment under a table are the same, with the same text, advice and places. The
+/// entries of the fragment are to be in the order of their names.
 pub fn one_build_fault()
     ensures { (f : Fragments Raw ⟦<RawName as NameText>⟧) (table : Table) (error other : Error) → IsInOrder f
         → BuildFault f table error → BuildFault f table other → AreToldAlike error other }

@@ -1,4 +1,5 @@
-use Rattle.cedar_schema_core.specs.Plan.{IsInputPlan, not_text, not_text_report}
+use Rattle.cedar_runs.specs.Reports.{not_text, not_text_report}
+use Rattle.cedar_schema_core.specs.Plan.{IsInputPlan}
 use Rattle.cedar_schema_core.proofs.Planned.{so, text_planned}
 use Rattle.cedar_schema_core.proofs.run.input_reply.Goals as goal
 
@@ -9,5 +10,5 @@ returns-in-Ok c =
 
 pub returns-in-Err : goal.returns-in-Err
 returns-in-Err c =
-    so (IsInputPlan c.args.command.now c.args.bytes.now) c.line.result not_text_report
-    (not_text c.requires c.in-Err.ensures.cases.0) c.line.ensures
+    so (IsInputPlan c.args.command.now c.args.bytes.now) c.not_text.result not_text_report
+    (not_text c.requires c.in-Err.ensures.cases.0) c.not_text.ensures

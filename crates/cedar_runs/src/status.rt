@@ -22,7 +22,7 @@ pub enum Status {
 }
 
 impl Status {
-    ghost use Rattle.cedar_schema_core.specs.Statuses.{code_of};
+    ghost use Rattle.cedar_runs.specs.Statuses.{code_of};
 
     /// The exit code: 0 to 7, in the order of the statuses.
     pub fn code(self) -> u8

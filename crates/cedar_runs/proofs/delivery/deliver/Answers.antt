@@ -1,7 +1,7 @@
 use Rattle.std.proofs.Common.{refl, subst, ◌∙◌}
 use Rattle.cedar_io.specs.Outside.{Appends, AppendsPart}
-use Rattle.cedar_schema_core.specs.Run.{whole, out_failed, err_failed}
-use Rattle.cedar_schema_core.proofs.run.deliver.Goals as goal
+use Rattle.cedar_runs.specs.Runs.{whole, out_failed, err_failed}
+use Rattle.cedar_runs.proofs.delivery.deliver.Goals as goal
 
 pub returns-in_default-clause-delivered : goal.returns-in_default-clause-delivered
 returns-in_default-clause-delivered g c =

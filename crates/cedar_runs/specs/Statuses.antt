@@ -1,8 +1,8 @@
 -- The exit codes.
 use Rattle.std.specs.Prelude.{ℕ}
-use Rattle.cedar_schema_core.specs.declared.status.Status.{Status}
-use Rattle.cedar_schema_core.specs.declared.status.Status.TheVariants.{Done, Refused, Usage, ReadFault, WriteFault}
-use Rattle.cedar_schema_core.specs.declared.status.Status.TheVariants.{NotText, TooLong, Memory}
+use Rattle.cedar_runs.specs.declared.status.Status.{Status}
+use Rattle.cedar_runs.specs.declared.status.Status.TheVariants.{Done, Refused, Usage, ReadFault, WriteFault}
+use Rattle.cedar_runs.specs.declared.status.Status.TheVariants.{NotText, TooLong, Memory}
 
 -- 0 to 7, in the order of the statuses
 abbrev pub code_of : Status → ℕ

@@ -1,5 +1,6 @@
 -- A table is known by its names.
-use Rattle.std.proofs.Common.{◌≡◌, ℕ, true, false, List, [], ◌∷◌, inl, inr, refl, sym, ap, ◌∙◌, subst}
+use Rattle.std.proofs.Common.{◌≡◌, ◌≢◌, ℕ, true, false, List, [], ◌∷◌, inl, inr, refl, sym, ap, ◌∙◌, subst}
+use Rattle.std.proofs.Common.{Option, Some, None, MatchOption, Bool, not}
 use Rattle.std.specs.Prelude.{map}
 use Rattle.std.specs.Cmp.{IsTotalOrder, on_total}
 use Rattle.std.specs.List.{list_any}
@@ -15,7 +16,7 @@ use Rattle.cedar_names.specs.TableNames.{is_builtin}
 use Rattle.cedar_names.specs.Tables.{table_names}
 use Rattle.cedar_names.specs.declared.extension_table.ExtensionTable.{ExtensionTable}
 use Rattle.laws_syntax.proofs.OneTree.Members.{In, same_rising}
-use Rattle.cedar_schema_core.specs.Commands.{IsTableInOrder}
+use Rattle.cedar_schema_core.specs.Commands.{IsTableInOrder, AsksForTable, standard, named}
 
 id_total : IsTotalOrder (λ (a b : UnreservedId). text_cmp a.id.text b.id.text)
 id_total = on_total (λ (u : UnreservedId). encode_utf8_all u.id.text) nat_list_cmp_total
@@ -72,3 +73,48 @@ one_table_of_names names t u h k =
     table_same t u (same_rising id_total t.names u.names h.rise k.rise
     (λ x there. is_own x u.names (k.of.same x.id.text ∙ sym (h.of.same x.id.text) ∙ has_own x t.names there))
     (λ x there. is_own x t.names (h.of.same x.id.text ∙ sym (k.of.same x.id.text) ∙ has_own x u.names there)))
+
+-- words ask for one table
+pub one_table_of_words : (plain with : List ℕ) (words : List (List ℕ)) (t u : ExtensionTable) → plain ≢ with
+    → AsksForTable plain with words t → AsksForTable plain with words u → t ≡ u
+one_table_of_words plain with words t u differ (standard e s) (standard f r) = one_table_of_texts t u (s ∙ sym r)
+one_table_of_words plain with words t u differ (standard e s) (named ns f k) =
+    let h : plain ∷ [] ≡ with ∷ ns = sym e ∙ f in absurd (differ cc)
+one_table_of_words plain with words t u differ (named ns e h) (standard f r) =
+    let h : plain ∷ [] ≡ with ∷ ns = sym f ∙ e in absurd (differ cc)
+one_table_of_words plain with words t u differ (named ns e h) (named ms f k) =
+    let all : with ∷ ms ≡ with ∷ ns = sym f ∙ e in
+    let same : ms ≡ ns = cc in
+    one_table_of_names ns t u h (subst (λ xs. IsTableInOrder xs u) same k)
+
+module _ (plain with : List ℕ) (words : List (List ℕ)) (alone : words ≡ plain ∷ [] → ⊥) where
+  -- no words ask for no table
+  pub none_for_none : words ≡ [] → (t : ExtensionTable) → AsksForTable plain with words t → ⊥
+  none_for_none none t (standard e s) = alone e
+  none_for_none none t (named ns e k) = let h : [] ≡ with ∷ ns = sym none ∙ e in cc
+
+  -- words that begin with another word ask for no table
+  pub none_for_another : (first : List ℕ) (names : List (List ℕ)) → words ≡ first ∷ names → (first ≡ with → ⊥)
+      → (t : ExtensionTable) → AsksForTable plain with words t → ⊥
+  none_for_another first names is other t (standard e s) = alone e
+  none_for_another first names is other t (named ns e k) =
+      let h : first ∷ names ≡ with ∷ ns = sym is ∙ e in other (let same : first ≡ with = cc in same)
+
+  none_for_names : (names : List (List ℕ)) → words ≡ with ∷ names
+      → ((t : ExtensionTable) → IsTableInOrder names t → ⊥) → (t : ExtensionTable) → AsksForTable plain with words t → ⊥
+  none_for_names names is none t (standard e s) = alone e
+  none_for_names names is none t (named ns e k) =
+      let h : with ∷ names ≡ with ∷ ns = sym is ∙ e in
+      let rest : ns ≡ names = cc in
+      none t (subst (λ xs. IsTableInOrder xs t) rest k)
+
+  -- words that begin with the second word ask for the table of the names behind it, or for none
+  pub found_for_names : (names : List (List ℕ)) → words ≡ with ∷ names → (found : Option ExtensionTable)
+      → MatchOption found ((t : ExtensionTable) → IsTableInOrder names t → ⊥) (IsTableInOrder names)
+      → MatchOption found ((t : ExtensionTable) → AsksForTable plain with words t → ⊥) (AsksForTable plain with words)
+  found_for_names names is None none = none_for_names names is none
+  found_for_names names is (Some t) h = named names is h
+
+pub not_false : (b : Bool) → not b ≡ false → b ≡ true
+not_false true e = refl
+not_false false e = cc

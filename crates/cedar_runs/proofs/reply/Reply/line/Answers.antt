@@ -1,7 +1,7 @@
 use Rattle.std.proofs.Common.{ap, ◌∙◌, ◌≡◌, []}
 use Rattle.std.specs.Str.{encode_utf8_all}
 use Rattle.std.proofs.lemmas.Str.{encodes-chars}
-use Rattle.cedar_schema_core.proofs.reply.Reply.line.Goals as goal
+use Rattle.cedar_runs.proofs.reply.Reply.line.Goals as goal
 
 pub returns : goal.returns
 returns c =
