@@ -1,0 +1,5 @@
+mod Places
+mod Meanings
+mod Noted
+mod Plans
+mod Ran

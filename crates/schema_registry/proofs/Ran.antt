@@ -1,0 +1,73 @@
+-- What a run that is done wrote.
+use Rattle.std.proofs.Common.{◌≡◌, ℕ, List, refl}
+use Rattle.cedar_runs.specs.declared.status.Status.{Status}
+use Rattle.cedar_runs.specs.declared.status.Status.TheVariants.{Done, Refused, Usage, ReadFault, WriteFault}
+use Rattle.cedar_runs.specs.declared.status.Status.TheVariants.{TooLong, Memory}
+use Rattle.cedar_runs.specs.Reports.{Report}
+use Rattle.cedar_runs.specs.Runs.{Device, AsksToRead, LeftAs, IsReported, planned, read_fault, TookWhole, IsDelivered}
+use Rattle.cedar_runs.specs.Runs.{whole, out_failed, err_failed, delivered, wanted_memory}
+use Rattle.cedar_io.specs.Input.{HadLeft}
+use Rattle.schema_registry.specs.Plans.{Asks, Reads, IsRegistryAnswer, too_long, cut_short, done, IsRegistryPlan, usage}
+use Rattle.schema_registry.specs.Plans.{asked, IsRegistryRun, RepliedToAll}
+use Rattle.schema_registry.specs.declared.run.Register.{Register}
+
+refused_done : Refused ≡ Done → ⊥
+refused_done e = cc
+
+usage_done : Usage ≡ Done → ⊥
+usage_done e = cc
+
+read_fault_done : ReadFault ≡ Done → ⊥
+read_fault_done e = cc
+
+write_fault_done : WriteFault ≡ Done → ⊥
+write_fault_done e = cc
+
+too_long_done : TooLong ≡ Done → ⊥
+too_long_done e = cc
+
+memory_done : Memory ≡ Done → ⊥
+memory_done e = cc
+
+done_too_long : Done ≡ TooLong → ⊥
+done_too_long e = cc
+
+module _ (words : List (List ℕ)) (source out err : Device) where
+  answered_done : (c : Register) → Asks words c → (bytes : List ℕ) (report : Report) → HadLeft source.before bytes
+      → source.faults_after ≡ source.faults_before → IsRegistryAnswer c.table bytes report
+      → LeftAs (AsksToRead Asks Reads words) source report.status → TookWhole out report.out
+      → TookWhole err report.err → report.status ≡ Done → RepliedToAll words source out err
+  answered_done c a bytes report had still (too_long h) l o e d = absurd (too_long_done d)
+  answered_done c a bytes report had still (cut_short s n) l o e d = absurd (refused_done d)
+  answered_done c a bytes report had still (done s lines h) l o e d = record {
+    command = c;
+    asks = a;
+    bytes = bytes;
+    lines = lines;
+    read = had;
+    end = l.end (c, a, tt) done_too_long;
+    steady = still;
+    replies = h;
+    written = o.took;
+    silent = e.nothing refl;
+  }
+
+  planned_done : (bytes : List ℕ) (report : Report) → HadLeft source.before bytes
+      → source.faults_after ≡ source.faults_before → IsRegistryPlan words bytes report
+      → LeftAs (AsksToRead Asks Reads words) source report.status → TookWhole out report.out
+      → TookWhole err report.err → report.status ≡ Done → RepliedToAll words source out err
+  planned_done bytes report had still (usage h) l o e d = absurd (usage_done d)
+  planned_done bytes report had still (asked c a h) l o e d = answered_done c a bytes report had still h l o e d
+
+  delivered_done : (status : Status) (report : Report)
+      → IsReported (AsksToRead Asks Reads words) (IsRegistryPlan words) source report
+      → IsDelivered out err report status → status ≡ Done → RepliedToAll words source out err
+  delivered_done status report (planned bytes had p l still) (whole o e) d = planned_done bytes report had still p l o e d
+  delivered_done status report (read_fault i w) (whole o e) d = absurd (read_fault_done d)
+  delivered_done status report h (out_failed f s) d = absurd (write_fault_done d)
+  delivered_done status report h (err_failed o f) d = absurd (write_fault_done d)
+
+  pub run_done : (status : Status) → IsRegistryRun words source out err status → status ≡ Done
+      → RepliedToAll words source out err
+  run_done status (delivered report h k) d = delivered_done status report h k d
+  run_done status (wanted_memory u o e) d = absurd (memory_done d)

@@ -1,0 +1,3 @@
+pub mod Submissions
+pub mod Replies
+pub mod Plans
