@@ -1,0 +1,3 @@
+pub mod Offers
+pub mod Spellings
+pub mod Homes

@@ -1,0 +1,4 @@
+pub mod Before
+pub mod Refusals
+pub mod Cuts
+pub mod Namespaces
