@@ -55,6 +55,7 @@ action_ids ty (a ∷ rest) = cond (same_name a.ty ty) (a.id ∷ action_ids ty re
 abbrev pub all_ids : SchemaMeaning → Name → Option (List Text)
 all_ids m ty = with_ids (entity_ids ty m.entities) (Some (action_ids ty m.actions))
 
+-- the id that goes first: the first choice, or the empty text
 abbrev pub first_id : Option (List Text) → Text
 first_id (Some (c ∷ cs)) = c
 first_id _ = []

@@ -20,6 +20,7 @@ abbrev pub first_of_each : {A B : Type 0} → (A → Option B) → List A → Op
 first_of_each f [] = None
 first_of_each f (x ∷ xs) = or_else (f x) (first_of_each f xs)
 
+-- whether two actions are the same
 abbrev pub same_key : Action → Action → Bool
 same_key a b = same_name a.0 b.0 && bytes_eq a.1 b.1
 
@@ -34,6 +35,7 @@ entries_of _ = no_entries
 abbrev pub one_tag : Val → Entries
 one_tag v = entry [] v no_entries
 
+-- the id that goes first, where the choices do not have it
 abbrev pub first_refused : Text → Option (List Text) → Option Text
 first_refused id None = None
 first_refused id (Some choices) = cond (has_text choices id) None (Some id)
@@ -45,11 +47,13 @@ module _ (old new : SchemaMeaning) where
   abbrev pub lost_entries : Attributes → Attributes → Option Entries
   lost_entries os ns = option_map entries_of (lost_type (PlainType.Rec os) (PlainType.Rec ns))
 
+  -- tags that the new type of tags does not take
   abbrev pub lost_tags : Option PlainType → Option PlainType → Option Entries
   lost_tags None u = None
   lost_tags (Some t) None = Some (one_tag (some_value (some_id old) t))
   lost_tags (Some t) (Some u) = option_map one_tag (lost_type t u)
 
+  -- a parent whose type is no ancestor any more, or whose id does not fit any more
   abbrev pub lost_parent : List Name → List Name → Option (Name × Text)
   lost_parent [] ns = None
   lost_parent (a ∷ os) ns = cond (list_any (same_name a) ns) (or_else (option_map (λ id. (a, id)) (lost_of old new a))
@@ -75,6 +79,7 @@ module _ (old new : SchemaMeaning) where
       (or_else (option_map (λ p. record some { parents = p ∷ [] }) (lost_parent o.ancestors n.ancestors))
       (option_map (λ id. with_id o id) (lost_id o.choices n.choices)))))
 
+  -- an entity of the old type that the new type, if there is one, does not admit
   abbrev pub lost_entity_to : EntityMeaning → Option EntityMeaning → Option EntityValue
   lost_entity_to o None = Some (with_id o (first_id o.choices))
   lost_entity_to o (Some n) = cond n.is_external (Some (with_id o (first_id o.choices))) (lost_entity_between o n)
@@ -101,6 +106,7 @@ module _ (old new : SchemaMeaning) where
   lost_request_to o p r (Some n) = cond n.is_external (Some (request_with o p r (some_context o)))
       (lost_request_between o n p r)
 
+  -- a request of the old action that the new action, if there is one, does not admit
   abbrev pub lost_request_of : ActionMeaning → Option ActionMeaning → List Name → List Name → Option RequestValue
   lost_request_of o found (p ∷ ps) (r ∷ rs) = lost_request_to o p r found
   lost_request_of o found _ _ = None
@@ -113,6 +119,7 @@ module _ (old new : SchemaMeaning) where
 
   -- ---- ancestors of actions
 
+  -- the ancestors of an action, if there is one
   abbrev pub ancestors_of : Option ActionMeaning → List Action
   ancestors_of None = []
   ancestors_of (Some a) = a.ancestors

@@ -52,6 +52,7 @@ IsWholeAction m a = IsWholeType m (PlainType.Rec a.context)
 abbrev pub entity_name : EntityMeaning → Name
 entity_name e = e.name
 
+-- the type and the id of an action
 abbrev pub action_name : ActionMeaning → Action
 action_name a = (a.ty, a.id)
 

@@ -3,3 +3,8 @@
 #![tactic(auto)]
 
 pub mod laws;
+pub mod schema_value;
+pub mod val;
+
+pub use schema_value::SchemaValue;
+pub use val::Val;

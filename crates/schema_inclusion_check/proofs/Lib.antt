@@ -1,0 +1,12 @@
+mod Anyone
+mod Lettered
+mod Equal
+mod Pieces
+mod Reading
+mod Membership
+mod Admitted
+mod Settling
+mod Sought
+mod Keyed
+mod Covered
+mod EntityIds

@@ -1,0 +1,6 @@
+use Rattle.cedar_data.specs.Text.{text_cmp}
+use Rattle.cedar_data.proofs.Orders.{nothing_rises}
+use Rattle.schema_inclusion_check.proofs.parts.action_parts.Goals as goal
+
+pub returns-in-External-clause-sorted : goal.returns-in-External-clause-sorted
+returns-in-External-clause-sorted c = nothing_rises text_cmp

@@ -1,0 +1,6 @@
+pub mod Raw
+pub mod Parts
+pub mod Told
+pub mod Ordered
+pub mod Below
+pub mod Rows

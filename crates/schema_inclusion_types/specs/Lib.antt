@@ -1,0 +1,5 @@
+pub mod Least
+pub mod Kinds
+pub mod Ids
+pub mod Entries
+pub mod LostAttributes
