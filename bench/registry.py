@@ -1,10 +1,10 @@
 #!/usr/bin/env python3
-"""Times the registry beside `recover` on the same declarations in one text, and beside another registry if one is given.
+"""Times the registry beside `recover` on the same declarations in one text, and beside another registry if given.
 
 usage: bench/registry.py [OTHER COMMAND..]      (build first: ./cedar_schema_tool --build and ./schema_registry --build)
 
-Each input has messages of some 100 bytes, twice as many as meanings. Printed are processor seconds, medians of five, and the
-most memory in use.
+Each input has messages of some 100 bytes, twice as many as meanings. Printed are processor seconds, medians of five,
+and the most memory in use.
 """
 import os
 import shlex
@@ -19,7 +19,8 @@ RUNS = 5
 
 
 def declaration(number):
-    return f"entity E{number:06} = {{ name: String, size?: Long, tags: Set<String>, owner: {{ id: Long, mail: String }} }};"
+    attributes = "name: String, size?: Long, tags: Set<String>, owner: { id: Long, mail: String }"
+    return f"entity E{number:06} = {{ {attributes} }};"
 
 
 def messages(count):
@@ -59,7 +60,8 @@ def main():
         data = messages(count)
         took, most = measure(registry, data)
         once, _ = measure(recover, text(count))
-        row = f"{count:7} messages {len(data):9} bytes {took:7.2f} s {most:6.0f} MiB  {took / once:5.2f} of recover on one text"
+        row = f"{count:7} messages {len(data):9} bytes {took:7.2f} s {most:6.0f} MiB"
+        row += f"  {took / once:5.2f} of recover on one text"
         if last:
             row += f"  growth {took / last:4.2f}"
         if other:

@@ -23,7 +23,7 @@ fn words_given(rt: &HostRuntime) -> io::Result<Vec<String>> {
     Ok(words)
 }
 
-// What is told of the program itself, where one word asks for it.
+// The help text or the version, where one word asks for it.
 fn told<'a>(words: &[String], help: &'a str, version: &'a str) -> Option<&'a str> {
     match words {
         [word] => match word.as_str() {

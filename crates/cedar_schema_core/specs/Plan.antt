@@ -16,7 +16,7 @@ use Rattle.cedar_schema_core.specs.Answers.{IsWrittenBy, IsRefusedBy}
 abbrev pub usage_report : Report
 usage_report = record { status = Usage; out = []; err = codes "usage: cedar_schema_tool COMMAND [NAME..]\n" }
 
--- the report where the input is refused: what is told of it goes to the error output
+-- the report where the input is refused: its faults go to the error output
 abbrev pub refused_report : List ℕ → RecoverError → Report
 refused_report text e = record { status = Refused; out = []; err = encode_utf8_all (fault_text text e) }
 

@@ -22,7 +22,7 @@ Reads c = ⊤
 abbrev pub usage_report : Report
 usage_report = record { status = Usage; out = []; err = codes "usage: schema_layout layout\n" }
 
--- what is told of a text that is no schema: its fault
+-- the report on a text that is no schema: its fault goes to the error output
 abbrev pub refused_report : ParseErrors → Report
 refused_report errors = record {
   status = Refused;
