@@ -15,4 +15,5 @@ returns-in-Ok c =
 pub returns-in-Err-Syntax : goal.returns-in-Err-Syntax
 returns-in-Err-Syntax c =
     so (IsLayoutAnswer c.args.text.now) c.refused_reply.result (refused_report c.in-Err-Syntax.errors)
-    (refused c.in-Err-Syntax.errors (rw c.in-Err-Syntax.field-0-is at c.in-Err-Syntax.ensures.refused)) c.refused_reply.ensures
+    (refused c.in-Err-Syntax.errors (rw c.in-Err-Syntax.field-0-is at c.in-Err-Syntax.ensures.refused))
+    c.refused_reply.ensures

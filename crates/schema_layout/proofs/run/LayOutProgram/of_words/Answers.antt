@@ -9,7 +9,8 @@ pub returns-then-eq : goal.returns-then-eq
 returns-then-eq c =
     let word = c.word-item.result in
     let same : string_bytes word ≡ codes "layout" =
-    sym c.as_str.ensures.value ∙ (bytes_eq-Decides c.as_str.result.now (codes "layout")).0 (sym c.eq.ensures ∙ c.if-eq.true)
+    sym c.as_str.ensures.value
+    ∙ (bytes_eq-Decides c.as_str.result.now (codes "layout")).0 (sym c.eq.ensures ∙ c.if-eq.true)
     in
     ap (map string_bytes) (one_word c.args.words.now word c.in-len1.len_at_least c.in-len1.len_below c.word-item.is)
     ∙ ap (λ w. w ∷ []) same
