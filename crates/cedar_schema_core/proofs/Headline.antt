@@ -131,7 +131,8 @@ module _ (words : List (List ℕ)) (table : ExtensionTable)
       (λ d. let k = done_means bytes report p d in (k.meaning, k.input)),
     )
 
-    pub recovers : (status : Status) → IsToolRun words source out err status → NoneCounted source out err → Recovers status
+    pub recovers : (status : Status) → IsToolRun words source out err status → NoneCounted source out err
+        → Recovers status
     recovers status (delivered report (planned all had p l s) (whole o e)) n =
         both report (subst (λ b. IsPlan words b report) (sym (told source.before bytes all left had)) p) o
     recovers status (delivered report (read_fault i w) (whole o e)) n = absurd (n.none_read w)

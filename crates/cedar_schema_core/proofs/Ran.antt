@@ -77,7 +77,8 @@ module _ (words : List (List ℕ)) (source out err : Device) where
       → TookWhole err report.err → report.status ≡ Done → CompletedBy
   planned_done c a r bytes report had still (too_long h) l o e d = absurd (too_long_done d)
   planned_done c a r bytes report had still (not_text s h) l o e d = absurd (not_text_done d)
-  planned_done c a r bytes report had still (answered s u h) l o e d = answered_done c a r bytes report had still h l o e d
+  planned_done c a r bytes report had still (answered s u h) l o e d =
+      answered_done c a r bytes report had still h l o e d
 
   reported_done : (bytes : List ℕ) (report : Report) → HadLeft source.before bytes
       → source.faults_after ≡ source.faults_before → IsPlan words bytes report
@@ -102,7 +103,8 @@ module _ (words : List (List ℕ)) (source out err : Device) where
 
   delivered_done : (status : Status) (report : Report) → IsReported (AsksForInput words) (IsPlan words) source report
       → IsDelivered out err report status → status ≡ Done → CompletedBy
-  delivered_done status report (planned bytes had p l still) (whole o e) d = reported_done bytes report had still p l o e d
+  delivered_done status report (planned bytes had p l still) (whole o e) d =
+      reported_done bytes report had still p l o e d
   delivered_done status report (read_fault i w) (whole o e) d = absurd (read_fault_done d)
   delivered_done status report h (out_failed f s) d = absurd (write_fault_done d)
   delivered_done status report h (err_failed o f) d = absurd (write_fault_done d)

@@ -1,6 +1,7 @@
 -- Items of lists by their places.
-use Rattle.std.proofs.Common.{◌≡◌, ◌+◌, ◌<◌, ◌≤◌, ℕ, List, [], ◌∷◌, ◌++◌, map, length, Option, Some, None, refl, sym, ap}
-use Rattle.std.proofs.Common.{◌∙◌, ◌⊎◌, inl, inr, suc, zero, eq-or-lt_of_le, subst, arith, slice_get, get_or, length-append}
+use Rattle.std.proofs.Common.{◌≡◌, ◌+◌, ◌<◌, ◌≤◌, ℕ, List, [], ◌∷◌, ◌++◌, map, length, Option, Some, None, refl, sym}
+use Rattle.std.proofs.Common.{◌∙◌, ◌⊎◌, inl, inr, suc, zero, eq-or-lt_of_le, ap, subst, arith, slice_get, get_or}
+use Rattle.std.proofs.Common.{length-append}
 use Rattle.std.specs.Option.{option_map}
 use Rattle.std.specs.List.{Contains, AllByRecursion}
 use Rattle.std.proofs.lemmas.Option.{slice_get_within, slice_get-get_or, get_or_from_slice_get, slice_get-map}
@@ -49,11 +50,12 @@ module _ {A : Type 0} where
 
   -- what holds of each item holds of the one at a place
   pub all_at : (P : A → Type 0) (xs : List A) (i : ℕ) (x : A) → AllByRecursion P xs → slice_get xs i ≡ Some x → P x
-  all_at P xs i x all is = subst P (get_or_from_slice_get xs i x x is) (go xs i x all (slice_get_within xs i x is)) where
-    go : (ys : List A) (k : ℕ) (d : A) → AllByRecursion P ys → k < length ys → P (get_or ys k d)
-    go [] k d h less = absurd (omega (arith, less))
-    go (y ∷ ys) zero d h less = h.0
-    go (y ∷ ys) (suc k) d h less = go ys k d h.1 (let l : suc k < length (y ∷ ys) = less in omega (arith, l))
+  all_at P xs i x all is =
+      subst P (get_or_from_slice_get xs i x x is) (go xs i x all (slice_get_within xs i x is)) where
+        go : (ys : List A) (k : ℕ) (d : A) → AllByRecursion P ys → k < length ys → P (get_or ys k d)
+        go [] k d h less = absurd (omega (arith, less))
+        go (y ∷ ys) zero d h less = h.0
+        go (y ∷ ys) (suc k) d h less = go ys k d h.1 (let l : suc k < length (y ∷ ys) = less in omega (arith, l))
 
 -- what stands in a list of images is the image of what stands there
 pub image_at : {A B : Type 0} (f : A → B) (xs : List A) (i : ℕ) (y : B) → slice_get (map f xs) i ≡ Some y

@@ -52,7 +52,8 @@ module _ (one_table : (plain with : List ℕ) (words : List (List ℕ)) (t u : E
       let replies : AreReplies table h.meanings h.messages other =
       subst (λ ns. AreReplies table ns h.messages other) (sym meanings)
       (subst (λ ms. AreReplies table k.meanings ms other) (sym messages) k.replies) in
-      one_replies table (λ text. one text table) h.meanings (once table [] h.messages h.meanings h.mean (none_once table))
+      one_replies table (λ text. one text table) h.meanings
+      (once table [] h.messages h.meanings h.mean (none_once table))
       h.messages out other h.replies replies
 
   one_answer : (table : ExtensionTable) (bytes : List ℕ) (report other : Report)

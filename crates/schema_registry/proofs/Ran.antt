@@ -62,7 +62,8 @@ module _ (words : List (List ℕ)) (source out err : Device) where
   delivered_done : (status : Status) (report : Report)
       → IsReported (AsksToRead Asks Reads words) (IsRegistryPlan words) source report
       → IsDelivered out err report status → status ≡ Done → RepliedToAll words source out err
-  delivered_done status report (planned bytes had p l still) (whole o e) d = planned_done bytes report had still p l o e d
+  delivered_done status report (planned bytes had p l still) (whole o e) d =
+      planned_done bytes report had still p l o e d
   delivered_done status report (read_fault i w) (whole o e) d = absurd (read_fault_done d)
   delivered_done status report h (out_failed f s) d = absurd (write_fault_done d)
   delivered_done status report h (err_failed o f) d = absurd (write_fault_done d)
