@@ -1,7 +1,10 @@
-ghost use Rattle.std.specs.Prelude.{◌≡◌, ◌≤◌, ◌++◌, ℕ, Bool, List, length, IfOk, not, ◌&&◌};
+ghost use Rattle.std.specs.Prelude.{◌≡◌, ◌≤◌, ◌<◌, ◌↔◌, ◌++◌, ℕ, Bool, true, List, length, IfOk, IfSome, IsTrue};
+ghost use Rattle.std.specs.Prelude.{MatchOption, not, ◌&&◌};
+ghost use Rattle.std.specs.Char.{is_whitespace, encode_utf8};
 ghost use Rattle.std.specs.Str.{IsUtf8};
 ghost use Rattle.std.specs.String.{string_bytes};
 ghost use Rattle.schema_syntax_tokens.specs.Scans.{NoBlank};
+ghost use Rattle.schema_syntax_tokens.specs.Steps.{StartsComment, IsPrinted};
 ghost use Rattle.schema_layout_pieces.specs.declared.context.Feeds.TheVariants.{NoFeed};
 ghost use Rattle.schema_layout_pieces.specs.declared.context.Gap.TheVariants.{NewLine};
 ghost use Rattle.schema_layout_pieces.specs.Pieces.{SourcePiece, IsPieces, ends_line};
@@ -84,6 +87,36 @@ fn push_token(
     context.pass_token(kind)
 }
 
+// The white space that the text begins with, as a character, and what follows it. `None` where it begins with none.
+fn first_blank(rest: &str) -> Option<(char, &str)>
+    ensures cases { MatchOption result ((StartsComment rest.now → ⊥) → NoBlank rest.now)
+        (λ found. (is_whitespace found.0 ≡ true) × (rest.now ≡ encode_utf8 found.0 ++ found.1.now)) }
+    ensures shorter { IfSome result (λ found. length found.1.now < length rest.now) }
+{
+    if let [first, ..] = rest.as_bytes() {
+        if *first == b' ' {
+            let (_, after) = rest.split_at(1);
+            return Some((' ', after));
+        }
+        if starts_no_blank(*first) {
+            return None;
+        }
+    }
+    let mut chars = rest.chars();
+    let first = chars.next()?;
+    if first.is_whitespace() {
+        return Some((first, chars.as_str()));
+    }
+    None
+}
+
+// Whether no blank begins with the byte: it is printed, and no slash.
+fn starts_no_blank(byte: u8) -> bool
+    ensures { IsTrue result ↔ IsPrinted byte }
+{
+    byte > b' ' && byte < 127 && byte != b'/'
+}
+
 // Writes the comments among the blanks that the rest begins with. The answer is what follows these blanks, and the line
 // feeds behind the last comment.
 fn push_comments<'a>(
@@ -110,16 +143,12 @@ fn push_comments<'a>(
             feeds = Feeds::NoFeed;
             rest = after;
         } else {
-            let mut chars = rest.chars();
-            match chars.next() {
+            match first_blank(rest) {
                 None => return Ok((rest, feeds)),
-                Some(first) => {
-                    if !first.is_whitespace() {
-                        return Ok((rest, feeds));
-                    }
+                Some((first, after)) => {
                     near = stays_near(near, first);
                     feeds = feeds.fed(first);
-                    rest = chars.as_str();
+                    rest = after;
                 }
             }
         }
@@ -148,7 +177,7 @@ pub fn write_layout(alloc: Global, text: &str, keeps: bool) -> Result<String, Al
     requires pieces { (pieces : List SourcePiece) × IsPieces text.now pieces }
     ensures { IfOk result (λ out. IsWritten keeps text.now (string_bytes out)) }
 {
-    let mut out = String::new(alloc);
+    let mut out = String::with_capacity(alloc, text.len())?;
     let mut context = Context::new(alloc);
     let mut rest = text;
     loop {

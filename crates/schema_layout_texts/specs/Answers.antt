@@ -2,6 +2,8 @@
 use Rattle.std.specs.Prelude.{◌≡◌, ℕ, List}
 use Rattle.schema_syntax_errors.specs.declared.parse_schema_error.ParseSchemaError.{ParseSchemaError}
 use Rattle.schema_syntax_errors.specs.declared.parse_schema_error.ParseSchemaError.TheVariants as parsing
+use Rattle.schema_syntax_tokens.specs.declared.token.Token.{Token}
+use Rattle.schema_syntax_reader.specs.LawfulTrees.{IsLawfulTree}
 use Rattle.schema_syntax_tree.specs.declared.annotated.Annotated.{Annotated}
 use Rattle.schema_syntax_tree.specs.declared.namespace.Namespace.{Namespace}
 use Rattle.schema_syntax.specs.ParseAnswers.{IsTreeOfText, IsRefusalOf}
@@ -12,6 +14,10 @@ use Rattle.schema_layout_texts.specs.declared.layout_error.LayoutError.TheVarian
 -- the text has a tree
 abbrev pub HasTree : List ℕ → Type 0
 HasTree text = (schema : List (Annotated Namespace)) × IsTreeOfText text schema
+
+-- the tokens of the text have a lawful tree
+abbrev pub HaveLawfulTree : List ℕ → List Token → Type 0
+HaveLawfulTree text tokens = (schema : List (Annotated Namespace)) × IsLawfulTree text tokens schema
 
 -- the error of a text that was not read
 abbrev pub layout_error_of : ParseSchemaError → LayoutError

@@ -7,7 +7,6 @@ use Rattle.std.specs.Char.{encode_utf8}
 use Rattle.std.specs.String.{string_bytes}
 use Rattle.schema_syntax_tokens.specs.Scans.{IsInLine, EndsLine}
 use Rattle.schema_syntax_tokens.specs.Steps.{StartsComment}
-use Rattle.schema_syntax_tokens.proofs.Blank.{NoBlank-empty, NoBlank-other}
 use Rattle.schema_layout_pieces.proofs.Steps.{step_blank, step_note}
 use Rattle.schema_layout_pieces.proofs.writer.push_comments.Goals as goal
 
@@ -37,29 +36,16 @@ loop-rest-preserved-then-starts_comment c =
 
 pub returns-in-None-clause-stop : goal.returns-in-None-clause-stop
 returns-in-None-clause-stop c =
-    NoBlank-empty c.loop-rest.rest.now (ap length (sym c.chars-chars.ensures.rest) ∙ c.in-None.ensures.steps.0.0)
-
-pub returns-then-not-is_whitespace-clause-stop : goal.returns-then-not-is_whitespace-clause-stop
-returns-then-not-is_whitespace-clause-stop c =
-    let begins : c.loop-rest.rest.now ≡ encode_utf8 c.in-Some.first ++ c.next.new.self.rest.now =
-    sym c.chars-chars.ensures.rest ∙ c.in-Some.ensures.steps.0 in
-    let none : StartsComment c.loop-rest.rest.now → ⊥ =
-    λ s. iff_false c.starts_comment.ensures c.if-starts_comment.false
-    (subst (λ t. StartsComment t) (sym c.as_bytes.ensures.value) s) in
-    NoBlank-other c.loop-rest.rest.now c.next.new.self.rest.now c.in-Some.first begins
-    (sym c.is_whitespace.ensures ∙ c.if-not-is_whitespace.true) none
+    (rw c.in-None.is at c.first_blank.ensures.cases) (λ s. iff_false c.starts_comment.ensures c.if-starts_comment.false
+    (subst (λ t. StartsComment t) (sym c.as_bytes.ensures.value) s))
 
 pub loop-rest-preserved : goal.loop-rest-preserved
 loop-rest-preserved c =
-    let begins : c.loop-rest.rest.now ≡ encode_utf8 c.in-Some.first ++ c.as_str-rest.result.now =
-    sym c.chars-chars.ensures.rest
-    ∙ (c.in-Some.ensures.steps.0 ∙ ap (λ t. encode_utf8 c.in-Some.first ++ t) (sym c.as_str-rest.ensures)) in (
-      c.as_str-rest.utf8,
+    let found = rw c.in-Some.is at c.first_blank.ensures.cases in (
+      search rules,
       grind (arith, common_steps),
       λ whole h. step_blank c.args.keeps whole (string_bytes c.loop-rest.text) c.loop-rest.context c.loop-rest.near
           c.stays_near-near.result c.loop-rest.feeds c.fed-feeds.result c.in-Some.first c.loop-rest.rest.now
-          c.as_str-rest.result.now
-          (sym c.is_whitespace.ensures ∙ c.if-not-is_whitespace.false) begins c.stays_near-near.ensures
-          c.fed-feeds.ensures
+          c.in-Some.after.now found.0 found.1 c.stays_near-near.ensures c.fed-feeds.ensures
           (c.loop-rest.invariant.2 whole h),
     )
