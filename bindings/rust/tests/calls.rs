@@ -1,0 +1,89 @@
+use cedar_schema::{check, format, from_deprecated, from_json, recover, run, to_json, version, Error};
+use std::thread;
+
+#[test]
+fn texts_are_recovered() {
+    assert_eq!(recover("entity B; entity A in B;").unwrap(), "entity A in [B];\n\nentity B;\n");
+    assert_eq!(recover("").unwrap(), "");
+    assert_eq!(check("entity A; action a;").unwrap(), (1, 1));
+    assert_eq!(format("entity A;//a\nentity B;").unwrap(), "entity A; //a\nentity B;\n");
+}
+
+#[test]
+fn json_goes_both_ways() {
+    let json = to_json("entity A;").unwrap();
+    assert_eq!(from_json(&json).unwrap(), "entity A;\n");
+    assert_eq!(from_deprecated(&json).unwrap(), "entity A;\n");
+}
+
+#[test]
+fn refusals_have_place_and_help() {
+    let error = recover("entity User = { name String };").unwrap_err();
+    assert_eq!(error.to_string(), "unexpected token `String`");
+    assert_eq!(error.place(), Some((21, 27)));
+    let error = recover("action view appliesTo { principal: User };").unwrap_err();
+    assert_eq!(error.place(), Some((7, 11)));
+    assert!(error.help().unwrap().starts_with("Every action must define both"));
+}
+
+#[test]
+fn inputs_have_limits() {
+    let deep = std::format!("type T = {}Long{};", "Set<".repeat(300), ">".repeat(300));
+    assert_eq!(recover(&deep), Err(Error::TooDeep));
+    assert_eq!(recover(&"a".repeat(16_777_217)), Err(Error::TooLong));
+    assert_eq!(run(&[b"recover"], b"\xff").status, 5);
+    assert_eq!(run(&[], b"").status, 2);
+    assert_eq!(run(&[b"\xff"], b"").status, 2);
+}
+
+#[test]
+fn threads_call_side_by_side() {
+    let all: Vec<_> = (0..8)
+        .map(|number| {
+            thread::spawn(move || {
+                let text = format!("entity E{number};");
+                for _ in 0..1000 {
+                    assert_eq!(recover(&text).unwrap(), format!("{text}\n"));
+                }
+            })
+        })
+        .collect();
+    for one in all {
+        one.join().unwrap();
+    }
+}
+
+// The bytes up to the first of this kind, and those behind it.
+fn cut(bytes: &[u8], at: u8) -> Option<(&[u8], &[u8])> {
+    let place = bytes.iter().position(|byte| *byte == at)?;
+    Some((&bytes[..place], &bytes[place + 1..]))
+}
+
+#[test]
+fn inputs_are_answered_as_expected() {
+    let bytes = std::fs::read(concat!(env!("CARGO_MANIFEST_DIR"), "/../answers")).unwrap();
+    let mut rest = &bytes[..];
+    let mut count = 0;
+    while let Some((head, behind)) = cut(rest, b'\n') {
+        let head = std::str::from_utf8(head).unwrap();
+        let (word, numbers) = head.split_once(' ').unwrap();
+        let numbers: Vec<usize> = numbers.split(' ').map(|number| number.parse().unwrap()).collect();
+        let (input, behind) = behind.split_at(numbers[0]);
+        let (out, behind) = behind.split_at(numbers[2]);
+        let (err, behind) = behind.split_at(numbers[3]);
+        rest = &behind[1..];
+        if word != "layout" {
+            let answer = run(&[word.as_bytes()], input);
+            assert_eq!((answer.status as usize, &answer.out[..], &answer.err[..]), (numbers[1], out, err));
+        } else if let Ok(text) = std::str::from_utf8(input) {
+            assert_eq!(format(text).ok().map(String::into_bytes), (numbers[1] == 0).then(|| out.to_vec()));
+        }
+        count += 1;
+    }
+    assert_eq!(count, 1000);
+}
+
+#[test]
+fn the_version_is_told() {
+    assert_eq!(version(), (0, 1, 0));
+}

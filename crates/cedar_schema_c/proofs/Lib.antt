@@ -1,0 +1,2 @@
+mod TextWords
+mod NoWords

@@ -1,0 +1,15 @@
+//! The proved calls for C: each takes bytes, fills an answer, and gives a status.
+#![tactic(auto)]
+
+pub mod answer;
+pub mod calls;
+pub mod replies;
+
+pub use answer::{Answer, answer_of};
+pub use calls::{
+    MEMORY, TOO_DEEP, Word, cedar_schema_check, cedar_schema_format, cedar_schema_from_deprecated,
+    cedar_schema_from_json, cedar_schema_recover, cedar_schema_run, cedar_schema_to_json,
+    cedar_schema_version,
+};
+pub use cedar_nesting::{DEEPEST, is_too_deep};
+pub use replies::reply_of_words;
