@@ -1,8 +1,9 @@
 //! The calls, by their names in C. Each answers as a run of a program on the same words and the same input would.
 //!
-//! The status is the exit code of such a run: 0 where it is done, 1 where the input is refused, 2 where the words ask for
-//! no command, 5 where the input is not UTF-8, 6 where it is longer than 16,777,216 bytes, and 7 where memory is out.
-//! It is 8 where the input is nested too deep, which only these calls refuse. Under 7 and 8 the answer stays as it was.
+//! The status is the exit code of such a run: 0 where it is done, 1 where the input is refused, 2 where the words ask
+//! for no command, 5 where the input is not UTF-8, 6 where it is longer than 16,777,216 bytes, and 7 where memory is
+//! out. It is 8 where the input is nested too deep, which only these calls refuse. Under 7 and 8 the answer stays as it
+//! was.
 ghost use Rattle.std.specs.Prelude.{◌≡◌, ◌≢◌, ◌↔◌, ◌⊎◌, [], ◌∷◌, IfOk, MatchOption, codes, map};
 ghost use Rattle.std.specs.List.{All};
 ghost use Rattle.std.specs.Str.{IsUtf8};
