@@ -1,2 +1,5 @@
 mod Behind
 mod OneList
+mod Plans
+mod Ran
+mod Refusals

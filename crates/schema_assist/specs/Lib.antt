@@ -1,1 +1,5 @@
 pub mod Assistance
+pub mod Words
+pub mod Lines
+pub mod Plans
+pub mod Runs

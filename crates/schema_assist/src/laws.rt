@@ -1,6 +1,6 @@
 // What follows from the definitions.
 
-ghost use Rattle.std.specs.Prelude.{◌≡◌, ℕ, List};
+ghost use Rattle.std.specs.Prelude.{◌≡◌, ◌≢◌, ℕ, List};
 ghost use Rattle.cedar_names.specs.declared.extension_table.ExtensionTable.{ExtensionTable};
 ghost use Rattle.schema_assist_offers.specs.Offers.{Known};
 ghost use Rattle.schema_assist_words.specs.Refusals.{IsAssistRefusal};
@@ -9,7 +9,8 @@ ghost use Rattle.schema_assist_words.specs.declared.text_before.AssistError.TheV
 ghost use Rattle.schema_assist.specs.Assistance.{IsAssistance};
 ghost use Rattle.schema_assist.specs.declared.assistance.Assistance.{Assistance};
 
-use schema_assist_words::laws::{front_or_refusal, one_front};
+use schema_assist_words::laws::{front_or_refusal, one_front, one_partial_word};
+use schema_syntax::one_syntax_fault;
 use schema_syntax_grammar::laws::one_expected;
 
 /// A place has one answer: one partial word, one list of kinds and one list of names.
@@ -29,4 +30,13 @@ pub fn assisted_or_refused()
         (error : AssistError) → IsAssistance text at known table a → IsAssistRefusal text at error → error ≡ Memory }
 {
     front_or_refusal();
+}
+
+/// A place is refused for one reason, but for memory.
+pub fn one_refusal()
+    ensures { (text : List ℕ) (at : ℕ) (error other : AssistError) → error ≢ Memory → other ≢ Memory
+        → IsAssistRefusal text at error → IsAssistRefusal text at other → error ≡ other }
+{
+    one_partial_word();
+    one_syntax_fault();
 }

@@ -1,9 +1,12 @@
 //! Runs one part of the front end over standard input, for the scripts in `bench` to time.
 #![tactic(auto)]
 
+use cedar_data::Map;
 use cedar_names::ExtensionTable;
+use schema_assist::assist;
 use schema_build::ValidatorSchema;
 use schema_convert::parse_cedar_schema_fragment;
+use schema_json::Fragment;
 use schema_print::ToCedarSchema;
 use schema_resolve::ResolveFragment;
 use schema_syntax::{parse_schema, scan, syntax_fault_of};
@@ -17,6 +20,7 @@ fn takes(alloc: Global, word: &str, text: &str) -> Result<bool, AllocError> {
         "scan" => Ok(scan(alloc, text)?.at == text.len()),
         "faults" => Ok(syntax_fault_of(alloc, text)?.is_none()),
         "parse" => Ok(parse_schema(alloc, text).is_ok()),
+        "assist" => assists(alloc, text),
         "translate" => {
             let table = ExtensionTable::all_available(alloc)?;
             Ok(parse_cedar_schema_fragment(alloc, text, &table).is_ok())
@@ -26,6 +30,13 @@ fn takes(alloc: Global, word: &str, text: &str) -> Result<bool, AllocError> {
         "build" => builds(alloc, text),
         _ => Ok(false),
     }
+}
+
+// Whether something may stand at the end of the text, where no names are known.
+fn assists(alloc: Global, text: &str) -> Result<bool, AllocError> {
+    let table = ExtensionTable::all_available(alloc)?;
+    let known = Fragment(Map::new(alloc));
+    Ok(assist(alloc, text, text.len(), &known, &table).is_ok())
 }
 
 // Whether each name of the text means something.

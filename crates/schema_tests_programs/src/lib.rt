@@ -1,6 +1,8 @@
-//! Runs of the formatter and the registry over devices in memory, and the registry as calls.
+//! Runs of completion, the formatter and the registry over devices in memory, and the registry as calls.
 #![tactic(auto)]
 
+#[cfg(test)]
+mod assist_runs;
 #[cfg(test)]
 mod layout_runs;
 #[cfg(test)]
