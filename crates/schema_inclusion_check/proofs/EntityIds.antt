@@ -24,7 +24,7 @@ use Rattle.schema_inclusion_check.proofs.Keyed.{entity_named}
 abbrev entity_name : EntityMeaning → List (List ℕ)
 entity_name e = e.name
 
-other_later : (m n : List (List ℕ)) → slice_cmp text_cmp m n ≡ Less → same_name n m ≡ false
+pub other_later : (m n : List (List ℕ)) → slice_cmp text_cmp m n ≡ Less → same_name n m ≡ false
 other_later m n h = sym (names_tie n m) ∙ (is_eq_turned texts_total n m ∙ ap is_eq h)
 
 none_later : (ty : List (List ℕ)) (es : List EntityMeaning)

@@ -67,7 +67,7 @@ ids_step n xs i d h e u q b is =
 
 -- ---- what is found under a name
 
-find_map : {X Y : Type 0} (f : X → Y) (p : Y → Bool) (q : X → Bool) → ((x : X) → p (f x) ≡ q x) → (xs : List X)
+pub find_map : {X Y : Type 0} (f : X → Y) (p : Y → Bool) (q : X → Bool) → ((x : X) → p (f x) ≡ q x) → (xs : List X)
     → option_map f (find q xs) ≡ find p (map f xs)
 find_map f p q same [] = refl
 find_map f p q same (x ∷ xs) = by (q x) refl (find_map f p q same xs)
@@ -87,6 +87,13 @@ module _ (C : Name → Name → Ordering)
   entity_found d es = find_map raw_entity (λ e. same_name e.name (raw_entity d).name) (λ e. is_eq (C e.0 d.0))
       (λ e. (λ i. same_name (entity_named e i) (entity_named d i))
       ∙ (sym (names_tie (components_of e.0.name) (components_of d.0.name)) ∙ ap is_eq (sym (goes e.0 d.0)))) es
+
+  pub entity_sought : (q : Name) (es : List (Name × ValidatorEntityType))
+      → option_map raw_entity (find (λ e. is_eq (C e.0 q)) es)
+      ≡ find (λ e. same_name e.name (components_of q.name)) (map raw_entity es)
+  entity_sought q es = find_map raw_entity (λ e. same_name e.name (components_of q.name)) (λ e. is_eq (C e.0 q))
+      (λ e. (λ i. same_name (entity_named e i) (components_of q.name))
+      ∙ (sym (names_tie (components_of e.0.name) (components_of q.name)) ∙ ap is_eq (sym (goes e.0 q)))) es
 
   module _ (U : EntityUID → EntityUID → Ordering)
       (by_both : (a b : EntityUID) → U a b ≡ ordering_then (C a.ty b.ty) (text_cmp a.eid.0 b.eid.0)) where

@@ -10,3 +10,6 @@ mod Sought
 mod Keyed
 mod Covered
 mod EntityIds
+mod Typed
+mod Tabled
+mod Arranged

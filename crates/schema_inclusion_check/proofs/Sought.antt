@@ -67,6 +67,17 @@ module _ {K X : Type 0} {C : K → K → Ordering} (o : IsTotalOrder C) (key : X
     | inr other ↦ below k f (omega arith)
   ]
 
+  -- the keys up to a place are less where the one at the place is
+  pub below_until : (xs : List X) (m : ℕ) (d : X) (q : K) → IsStrictlySortedBy C (map key xs) → m < length xs
+      → d ≡ get_or xs m d → C (key d) q ≡ Less → AreBelow C key xs (m + 1) q
+  below_until xs m d q up h e less = λ k f lt. elim (cases_eq k m) [
+    | inl same ↦ subst (λ i. C (key (get_or xs i f)) q ≡ Less) (sym same)
+        (ap (λ x. C (key x) q) (same_default xs m f d h ∙ sym e) ∙ less)
+    | inr other ↦ o.trans (key (get_or xs k f)) (key d) q
+        (ap (λ x. C (key (get_or xs k f)) (key x)) (e ∙ same_default xs m d f h)
+        ∙ earlier_less xs k m f up (omega arith) h) less
+  ]
+
   module _ (xs : List X) (q : K) where
     abbrev is_here : X → Bool
     is_here x = is_eq (C (key x) q)

@@ -4,3 +4,4 @@ pub mod Told
 pub mod Ordered
 pub mod Below
 pub mod Rows
+pub mod Subjects

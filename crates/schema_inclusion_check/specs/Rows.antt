@@ -1,17 +1,30 @@
 -- Ids of entity types, as they are put together.
-use Rattle.std.specs.Prelude.{◌≡◌, ℕ, false, List, [], Option, Some, None, map, option_map}
-use Rattle.std.specs.Borrow.{Bor}
+use Rattle.std.specs.Prelude.{◌≡◌, ◌<◌, ℕ, false, List, [], Option, Some, None, map, slice_index_or}
 use Rattle.std.specs.List.{list_any}
+use Rattle.std.specs.declared.cmp.Ordering.TheVariants.{Less}
 use Rattle.cedar_identifiers.specs.Names.{components_of}
 use Rattle.cedar_identifiers.specs.declared.name.Name.{Name}
 use Rattle.cedar_names.specs.Definitions.{same_name}
 use Rattle.cedar_names.specs.Meaning.{EntityMeaning, ActionMeaning, SchemaMeaning}
-use Rattle.schema_inclusion_values.specs.Ids.{with_ids, action_ids, some_id, lost_of}
+use Rattle.cedar_names.specs.Orders.{names_in_order}
+use Rattle.cedar_names.specs.declared.entity_uid.EntityUID.{EntityUID}
+use Rattle.schema_build_types.specs.declared.action.ValidatorActionId.{ValidatorActionId}
+use Rattle.schema_inclusion_values.specs.Ids.{with_ids, entity_ids, action_ids, some_id, lost_of}
 use Rattle.schema_inclusion_types.specs.declared.ids.TypeIds.{TypeIds}
 
--- names that are lent
-abbrev pub names_now : List (Bor Name) → List (List (List ℕ))
-names_now names = map (λ n. components_of n.now.name) names
+-- the names of rows
+abbrev pub row_names : List (Name × TypeIds) → List (List (List ℕ))
+row_names rows = map (λ r. components_of r.0.name) rows
+
+-- the types of the actions before the place are less than this one
+abbrev pub AreTypesBelow : List (EntityUID × ValidatorActionId) → ℕ → Name → Type 0
+AreTypesBelow actions at ty = (k : ℕ) (d : EntityUID × ValidatorActionId) → k < at
+    → names_in_order (slice_index_or actions k d).0.ty.name ty.name ≡ Less
+
+-- entity types of other names have no ids
+abbrev pub CoverEntities : List (List (List ℕ)) → List EntityMeaning → Type 0
+CoverEntities types entities = (n : List (List ℕ)) → list_any (same_name n) types ≡ false
+    → entity_ids n entities ≡ Some []
 
 -- actions of other types have no ids
 abbrev pub CoverTypes : List (List (List ℕ)) → List ActionMeaning → Type 0

@@ -12,4 +12,4 @@ pub mod requests;
 pub mod schemas;
 mod seek;
 
-pub use schemas::{Lent, first_lost};
+pub use schemas::{Lent, lost_between};

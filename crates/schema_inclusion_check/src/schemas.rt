@@ -14,6 +14,7 @@ ghost use Rattle.schema_inclusion_check.specs.Raw.{raw_entity, raw_action, raw_m
 ghost use Rattle.schema_inclusion_check.specs.Told.{IsTold};
 
 use crate::entities::lost_entity_to;
+use crate::ids_between::told_ids;
 use crate::parts::{action_parts, entity_parts};
 use crate::requests::{lost_action_to, lost_request_to};
 use crate::seek::seek;
@@ -160,9 +161,9 @@ fn first_lost_action(
     Ok(None)
 }
 
-/// The first value that the old schema admits and the new one does not, with ids of the entity types of both: of
-/// entities, then requests, then ancestors of actions.
-pub fn first_lost(
+// The first value that the old schema admits and the new one does not, with ids of the entity types of both: of
+// entities, then requests, then ancestors of actions.
+fn first_lost(
     alloc: Global,
     ids: &Ids,
     old: &Lent<'_>,
@@ -184,4 +185,22 @@ pub fn first_lost(
         return Ok(Some(value));
     }
     first_lost_action(alloc, old.actions, new.actions)
+}
+
+/// The first value that the old schema admits and the new one does not.
+pub fn lost_between(
+    alloc: Global,
+    old: &Lent<'_>,
+    new: &Lent<'_>,
+) -> Result<Option<SchemaValue>, AllocError>
+    requires old_entities { IsStrictlySortedBy (λ a b. names_in_order a.name b.name) (keys_of old.now.entities.now) }
+    requires new_entities { IsStrictlySortedBy (λ a b. names_in_order a.name b.name) (keys_of new.now.entities.now) }
+    requires old_actions { IsStrictlySortedBy uids_in_order (keys_of old.now.actions.now) }
+    requires new_actions { IsStrictlySortedBy uids_in_order (keys_of new.now.actions.now) }
+    ensures { IfOk result (λ found. option_map schema_value found
+        ≡ lost (raw_meaning old.now.entities.now old.now.actions.now)
+        (raw_meaning new.now.entities.now new.now.actions.now)) }
+{
+    let ids = told_ids(alloc, old, new)?;
+    first_lost(alloc, &ids, old, new)
 }

@@ -32,3 +32,22 @@ pub(crate) fn seek<'a, E: Keyed>(
     }
     (at, None)
 }
+
+// Where the entries begin whose keys are not less than this one, among entries whose keys rise, found by halving.
+pub(crate) fn first_from<E: Keyed>(entries: &[E], key: &E::Key) -> usize
+    requires { IsStrictlySortedBy E.Key.cmp (map (λ e. (E.pair e).0) entries.now) }
+    ensures below { AreBelow E.Key.cmp (λ e. (E.pair e).0) entries.now result key.now }
+    ensures within { result ≤ length entries.now }
+{
+    let mut low = 0;
+    let mut high = entries.len();
+    while low < high {
+        let middle = low + (high - low) / 2;
+        match entries[middle].key().cmp(key) {
+            Ordering::Less => low = middle + 1,
+            Ordering::Equal => high = middle,
+            Ordering::Greater => high = middle,
+        }
+    }
+    low
+}

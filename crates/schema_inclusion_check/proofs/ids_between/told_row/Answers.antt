@@ -12,17 +12,17 @@ use Rattle.schema_inclusion_check.proofs.ids_between.told_row.Goals as goal
 
 pub returns : goal.returns
 returns c =
-    let olds = c.args.old.now.lent in
+    let olds = c.args.old.now in
     let news = c.args.new.now in
     let ty = components_of c.args.name.now.name in
     let m = raw_meaning olds.entities.now olds.actions.now in
-    let n = raw_meaning news.lent.entities.now news.lent.actions.now in
+    let n = raw_meaning news.entities.now news.actions.now in
     let order = (λ (x y : Name). names_in_order x.name y.name) in
     let go = names_go id_text_order (λ x y. refl) in
     let old_ids = all_found m ty (option_map raw_entity (option_copied c.find_entity-own.result))
-    (raw_names_rise order go olds.entities.now c.requires.old_sorted) c.find_entity-own.ensures in
+    (raw_names_rise order go olds.entities.now c.requires.old_entities) c.find_entity-own.ensures in
     let new_ids = all_found n ty (option_map raw_entity (option_copied c.find_entity-found.result))
-    (raw_names_rise order go news.lent.entities.now c.requires.new_sorted) c.find_entity-found.ensures in
+    (raw_names_rise order go news.entities.now c.requires.new_entities) c.find_entity-found.ensures in
     IfOk-weaker c.row_between.result _ _
     (λ r h.
     let at = ap (λ (x : Name). components_of x.name) h.0 in (

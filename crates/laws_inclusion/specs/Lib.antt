@@ -1,0 +1,2 @@
+pub mod TextMeans
+pub mod Inhabited

@@ -1,0 +1,4 @@
+//! Laws of what meanings of fragments without a build fault admit, whether or not a name in them is captured.
+#![tactic(auto)]
+
+pub mod laws;
