@@ -51,9 +51,83 @@ static void word_lists(void) {
   cedar_schema_free(&answer);
 }
 
+static void expect_answer(const char *what, int got, int status, const char *out, cedar_schema_answer *answer) {
+  if (got != status || answer->out.len != strlen(out) || memcmp(answer->out.at, out, answer->out.len) != 0) {
+    fprintf(stderr, "%s: status %d, output `%.*s`\n", what, got, (int)answer->out.len, (const char *)answer->out.at);
+    failures++;
+  }
+  cedar_schema_free(answer);
+}
+
+static void completions(void) {
+  const uint8_t *text = (const uint8_t *)"entity User; entity A in U;";
+  const char *told = "kind `namespace`\n"
+                     "kind `entity`\n"
+                     "kind `external`\n"
+                     "kind `type`\n"
+                     "kind `Set`\n"
+                     "kind `appliesTo`\n"
+                     "kind `principal`\n"
+                     "kind `action`\n"
+                     "kind `resource`\n"
+                     "kind `context`\n"
+                     "kind `tags`\n"
+                     "kind `enum`\n"
+                     "kind identifier\n"
+                     "kind `[`\n"
+                     "name User\n";
+  cedar_schema_answer answer = CEDAR_SCHEMA_ANSWER_NONE;
+  expect_answer("complete", cedar_schema_complete(text, 27, 26, &answer), CEDAR_SCHEMA_DONE, told, &answer);
+  expect_answer("no place", cedar_schema_complete(text, 27, 99, &answer), CEDAR_SCHEMA_REFUSED, "", &answer);
+}
+
+static void comparisons(void) {
+  const uint8_t *a = (const uint8_t *)"entity A, B;", *b = (const uint8_t *)"entity B; entity A;";
+  cedar_schema_answer answer = CEDAR_SCHEMA_ANSWER_NONE;
+  expect_answer("same", cedar_schema_same(a, 12, b, 19, &answer), CEDAR_SCHEMA_DONE, "same\n", &answer);
+  expect_answer("different", cedar_schema_same(a, 12, b, 9, &answer), CEDAR_SCHEMA_DONE, "different\n", &answer);
+  expect_answer("included", cedar_schema_include(b, 9, a, 12, &answer), CEDAR_SCHEMA_DONE, "included\n", &answer);
+  expect_answer("lost", cedar_schema_include(a, 12, b, 9, &answer), CEDAR_SCHEMA_DONE,
+                "not included: entity A::\"\"\n", &answer);
+  expect_answer("old", cedar_schema_include(a, 11, b, 9, &answer), CEDAR_SCHEMA_REFUSED, "", &answer);
+  expect_answer("first", cedar_schema_same(a, 11, b, 9, &answer), CEDAR_SCHEMA_REFUSED, "first\n", &answer);
+  expect_answer("second", cedar_schema_same(a, 12, b, 8, &answer), CEDAR_SCHEMA_REFUSED, "second\n", &answer);
+}
+
+static void reports(void) {
+  cedar_schema_answer answer;
+  const uint8_t *text = (const uint8_t *)"entity A;\nentity B in [C];";
+  const char *told = "{\"help\":null,\"message\":\"failed to resolve type: C\",\"path\":\"-\",\"places\":[{\"end\":"
+                     "{\"byte\":24,\"column\":15,\"line\":2,\"utf16\":15},\"start\":{\"byte\":23,\"column\":14,"
+                     "\"line\":2,\"utf16\":14},\"text\":null}],\"rule\":null,\"severity\":\"error\"}\n";
+  expect_answer("report", cedar_schema_report(text, 26, &answer), CEDAR_SCHEMA_REFUSED, told, &answer);
+  expect_answer("nothing to report", cedar_schema_report(text, 9, &answer), CEDAR_SCHEMA_DONE, "", &answer);
+}
+
+static uint8_t complete_at_end(const uint8_t *bytes, size_t len, cedar_schema_answer *answer) {
+  return cedar_schema_complete(bytes, len, len, answer);
+}
+
+static uint8_t same_as_itself(const uint8_t *bytes, size_t len, cedar_schema_answer *answer) {
+  return cedar_schema_same(bytes, len, bytes, len, answer);
+}
+
+static uint8_t includes_itself(const uint8_t *bytes, size_t len, cedar_schema_answer *answer) {
+  return cedar_schema_include(bytes, len, bytes, len, answer);
+}
+
+static uint8_t run_recover(const uint8_t *bytes, size_t len, cedar_schema_answer *answer) {
+  cedar_schema_bytes word = { (const uint8_t *)"recover", 7 };
+  return cedar_schema_run(&word, 1, bytes, len, answer);
+}
+
+/* The calls that take one input. The first so many have a word in the file of answers. */
 static const call calls[] = { cedar_schema_recover,   cedar_schema_check,           cedar_schema_to_json,
-                              cedar_schema_from_json, cedar_schema_from_deprecated, cedar_schema_format };
-enum { CALLS = sizeof calls / sizeof calls[0] };
+                              cedar_schema_from_json, cedar_schema_from_deprecated, cedar_schema_format,
+                              complete_at_end,        same_as_itself,               includes_itself,
+                              run_recover,            cedar_schema_report };
+static const char *const names[] = { "recover", "check", "to-json", "from-json", "from-deprecated", "layout" };
+enum { CALLS = sizeof calls / sizeof calls[0], NAMES = sizeof names / sizeof names[0] };
 
 /* An input with so many brackets open: `depth` times `open`, then `middle`, then as often `close`. */
 static char *nested(int depth, const char *front, const char *open, const char *middle, const char *close,
@@ -111,8 +185,6 @@ static void small_stack(void) {
   pthread_join(thread, NULL);
 }
 
-static const char *const names[] = { "recover", "check", "to-json", "from-json", "from-deprecated", "layout" };
-
 static char *read_block(FILE *file, size_t len) {
   char *block = malloc(len + 1);
   if (fread(block, 1, len, file) != len) failures++;
@@ -134,7 +206,7 @@ static void answers(const char *path) {
     fgetc(file);
     char *input = read_block(file, len), *out = read_block(file, out_len), *err = read_block(file, err_len);
     cedar_schema_answer answer = CEDAR_SCHEMA_ANSWER_NONE;
-    for (int i = 0; i < CALLS; i++) {
+    for (int i = 0; i < NAMES; i++) {
       if (strcmp(names[i], word) != 0) continue;
       int got = calls[i]((const uint8_t *)input, len, &answer);
       if (got != status || answer.out.len != out_len || memcmp(answer.out.at, out, out_len) != 0 ||
@@ -179,6 +251,9 @@ int main(int count, char **words) {
   if (cedar_schema_version() != CEDAR_SCHEMA_VERSION) failures++;
   worked_rows();
   word_lists();
+  completions();
+  comparisons();
+  reports();
   answers(words[1]);
   small_stack();
   timed();

@@ -53,6 +53,27 @@ uint8_t cedar_schema_from_deprecated(const uint8_t *bytes, size_t len, cedar_sch
 /* A schema text laid out anew, with its comments. */
 uint8_t cedar_schema_format(const uint8_t *bytes, size_t len, cedar_schema_answer *answer);
 
+/* What may stand at a place of a schema text, a byte offset: a line `kind KIND` for each kind of token, and then a line
+ * `name NAME` for each name that the text declares or Cedar has. CEDAR_SCHEMA_REFUSED where the text before the place
+ * has a fault, or where there is no such place. */
+uint8_t cedar_schema_complete(const uint8_t *bytes, size_t len, size_t place, cedar_schema_answer *answer);
+
+/* What is reported of a schema text: `out` has an object of JSON on a line of its own for each warning, or, under
+ * CEDAR_SCHEMA_REFUSED, for each fault. An object has `severity`, `rule`, `message`, `help`, `path`, which is `-`, and
+ * `places`; each place has `start`, `end` and `text`, and a start or an end has `byte`, which counts from 0, and `line`,
+ * `column` (in characters) and `utf16` (in UTF-16 units), which count from 1. */
+uint8_t cedar_schema_report(const uint8_t *bytes, size_t len, cedar_schema_answer *answer);
+
+/* Whether two schema texts mean the same: `out` has the line `same` or `different`. Where one of them is no schema,
+ * `out` has the line `first` or `second`, and `err` the faults of that text. */
+uint8_t cedar_schema_same(const uint8_t *first, size_t first_len, const uint8_t *second, size_t second_len,
+                          cedar_schema_answer *answer);
+
+/* Whether a new schema text admits all that an old one does: `out` has the line `included`, or `not included: ` and
+ * what the first value is about that it does not admit. Where one of them is no schema, `err` says why. */
+uint8_t cedar_schema_include(const uint8_t *old_bytes, size_t old_len, const uint8_t *new_bytes, size_t new_len,
+                             cedar_schema_answer *answer);
+
 /* What the program cedar_schema_tool answers to these words and this input. */
 uint8_t cedar_schema_run(const cedar_schema_bytes *words, size_t count, const uint8_t *bytes, size_t len,
                          cedar_schema_answer *answer);

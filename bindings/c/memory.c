@@ -56,11 +56,26 @@ static int each_refused(call function, const char *text) {
   return 1;
 }
 
+static uint8_t complete_in_name(const uint8_t *bytes, size_t len, cedar_schema_answer *answer) {
+  return cedar_schema_complete(bytes, len, 17, answer);
+}
+
+static uint8_t same_as_itself(const uint8_t *bytes, size_t len, cedar_schema_answer *answer) {
+  return cedar_schema_same(bytes, len, bytes, len, answer);
+}
+
+static uint8_t includes_itself(const uint8_t *bytes, size_t len, cedar_schema_answer *answer) {
+  return cedar_schema_include(bytes, len, bytes, len, answer);
+}
+
 int main(void) {
   const char *text = "@doc(\"a\") entity A in [B] = { a: Set<Long>, b?: { c: T } }; entity B; type T = String;"
                      " action a appliesTo { principal: A, resource: [A, B] };";
   return each_refused(cedar_schema_recover, text) || each_refused(cedar_schema_check, text)
          || each_refused(cedar_schema_to_json, text) || each_refused(cedar_schema_format, text)
          || each_refused(cedar_schema_from_json, "{\"\": {\"entityTypes\": {\"A\": {}}, \"actions\": {}}}")
-         || each_refused(cedar_schema_recover, "entity A in [B];");
+         || each_refused(cedar_schema_recover, "entity A in [B];") || each_refused(complete_in_name, text)
+         || each_refused(cedar_schema_report, "entity A in [B];") || each_refused(cedar_schema_report, text)
+         || each_refused(same_as_itself, text) || each_refused(includes_itself, text)
+         || each_refused(same_as_itself, "entity A in [B];");
 }

@@ -8,22 +8,31 @@ from __future__ import annotations
 
 import ctypes
 import ctypes.util
+import json
 import os
 import re
 from typing import List, NamedTuple, Optional, Sequence, Tuple
 
 __all__ = [
     "Answer",
+    "Completions",
     "DeepError",
     "Fault",
     "InputError",
+    "Place",
+    "Position",
+    "Report",
     "SchemaError",
     "UsageError",
     "check",
+    "complete",
     "format",
     "from_json",
+    "include",
     "recover",
+    "report",
     "run",
+    "same",
     "to_json",
     "version",
 ]
@@ -87,6 +96,48 @@ class Answer(NamedTuple):
     err: bytes
 
 
+class Completions(NamedTuple):
+    """What may stand at a place of a text."""
+
+    kinds: List[str]
+    """The kinds of tokens, as messages call them."""
+    names: List[str]
+    """The names that complete the word that ends at the place."""
+
+
+class Position(NamedTuple):
+    """Where a place of a text begins or ends."""
+
+    byte: int
+    """The bytes ahead of it, as UTF-8."""
+    line: int
+    """The line, from 1."""
+    column: int
+    """The column in characters, from 1."""
+    utf16: int
+    """The column in UTF-16 units, from 1."""
+
+
+class Place(NamedTuple):
+    """A place that a report points to, up to and not including its end."""
+
+    start: Position
+    end: Position
+    text: Optional[str]
+    """What the place stands for, such as what could stand there."""
+
+
+class Report(NamedTuple):
+    """A fault or a warning of a text."""
+
+    severity: str
+    """`error` or `warning`."""
+    message: str
+    help: Optional[str]
+    """How to mend it, where there is advice."""
+    places: List[Place]
+
+
 class _Bytes(ctypes.Structure):
     _fields_ = [("at", ctypes.c_void_p), ("len", ctypes.c_size_t)]
 
@@ -111,11 +162,21 @@ def _load() -> ctypes.CDLL:
 
 _library = _load()
 _calls = {}
-for _name in ["recover", "check", "to_json", "from_json", "from_deprecated", "format"]:
+for _name in ["recover", "check", "to_json", "from_json", "from_deprecated", "format", "report"]:
     _call = getattr(_library, f"cedar_schema_{_name}")
     _call.argtypes = [ctypes.c_char_p, ctypes.c_size_t, ctypes.POINTER(_Answer)]
     _call.restype = ctypes.c_uint8
     _calls[_name] = _call
+_library.cedar_schema_complete.argtypes = [
+    ctypes.c_char_p,
+    ctypes.c_size_t,
+    ctypes.c_size_t,
+    ctypes.POINTER(_Answer),
+]
+_library.cedar_schema_complete.restype = ctypes.c_uint8
+for _call in [_library.cedar_schema_same, _library.cedar_schema_include]:
+    _call.argtypes = [ctypes.c_char_p, ctypes.c_size_t, ctypes.c_char_p, ctypes.c_size_t, ctypes.POINTER(_Answer)]
+    _call.restype = ctypes.c_uint8
 _library.cedar_schema_run.argtypes = [
     ctypes.POINTER(_Bytes),
     ctypes.c_size_t,
@@ -152,6 +213,13 @@ def _answer(name: str, text: "str | bytes") -> str:
     data = _bytes(text)
     answer = _empty()
     status = _calls[name](data, len(data), ctypes.byref(answer))
+    return _out(_taken(status, answer))
+
+
+def _of_two(call: "ctypes._FuncPointer", first: "str | bytes", second: "str | bytes") -> str:
+    one, other = _bytes(first), _bytes(second)
+    answer = _empty()
+    status = call(one, len(one), other, len(other), ctypes.byref(answer))
     return _out(_taken(status, answer))
 
 
@@ -218,6 +286,51 @@ def from_json(text: "str | bytes", *, deprecated: bool = False) -> str:
 def format(text: "str | bytes") -> str:
     """A schema text laid out anew, with its comments. Raises SchemaError where it is no schema."""
     return _answer("format", text)
+
+
+def complete(text: "str | bytes", place: int) -> Completions:
+    """What may stand at a place, which counts bytes of the text as UTF-8.
+
+    Raises SchemaError where the text before the place has a fault, and where there is no such place.
+    """
+    data = _bytes(text)
+    answer = _empty()
+    status = _library.cedar_schema_complete(data, len(data), place, ctypes.byref(answer))
+    lines = _out(_taken(status, answer)).splitlines()
+    return Completions(
+        [line[len("kind ") :] for line in lines if line.startswith("kind ")],
+        [line[len("name ") :] for line in lines if line.startswith("name ")],
+    )
+
+
+def _report(line: str) -> Report:
+    told = json.loads(line)
+    places = [
+        Place(Position(**place["start"]), Position(**place["end"]), place["text"]) for place in told["places"]
+    ]
+    return Report(told["severity"], told["message"], told["help"], places)
+
+
+def report(text: "str | bytes") -> List[Report]:
+    """What is reported of a schema text: its warnings, or its faults. A text with faults raises nothing."""
+    data = _bytes(text)
+    answer = _empty()
+    status = _calls["report"](data, len(data), ctypes.byref(answer))
+    taken = _taken(status, answer)
+    lines = _out(taken._replace(status=DONE) if taken.status == REFUSED else taken)
+    return [_report(line) for line in lines.split("\n")[:-1]]
+
+
+def same(first: "str | bytes", second: "str | bytes") -> bool:
+    """Whether two schema texts mean the same. Raises SchemaError where one of them is no schema."""
+    return _of_two(_library.cedar_schema_same, first, second) == "same\n"
+
+
+def include(old: "str | bytes", new: "str | bytes") -> Optional[str]:
+    """None where the new schema admits all that the old one does, and else what the first value is about that it does
+    not admit. Raises SchemaError where one of them is no schema."""
+    found = _of_two(_library.cedar_schema_include, old, new)
+    return None if found == "included\n" else found[len("not included: ") : -1]
 
 
 def run(words: "Sequence[str | bytes]", text: "str | bytes" = b"") -> Answer:

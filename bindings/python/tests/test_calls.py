@@ -59,6 +59,37 @@ class Calls(unittest.TestCase):
         self.assertEqual(cedar_schema.run([b"\xff"]).status, 2)
         self.assertEqual(cedar_schema.run(["recover-with", "decimal"], "type T = decimal;")[0], 0)
 
+    def test_complete(self):
+        text = "entity User; entity A in U;"
+        self.assertEqual(cedar_schema.complete(text, 26).names, ["User"])
+        self.assertIn("identifier", cedar_schema.complete(text, 26).kinds)
+        with self.assertRaises(SchemaError) as caught:
+            cedar_schema.complete("entity = A", 10)
+        self.assertEqual(caught.exception.message, "unexpected token `=`")
+        with self.assertRaises(SchemaError):
+            cedar_schema.complete(text, 99)
+
+    def test_report(self):
+        self.assertEqual(cedar_schema.report("entity A;"), [])
+        found = cedar_schema.report("entity \u00e9;\n/* \U0001f600 */")
+        self.assertEqual(found[0].severity, "error")
+        self.assertEqual(found[0].places[0].start, cedar_schema.Position(7, 1, 8, 8))
+        with self.assertRaises(InputError):
+            cedar_schema.report(b"\xff")
+
+    def test_same(self):
+        self.assertTrue(cedar_schema.same("entity A, B;", "// b\nentity B; entity A;"))
+        self.assertFalse(cedar_schema.same("entity A;", "entity A tags Long;"))
+        with self.assertRaises(SchemaError) as caught:
+            cedar_schema.same("entity A;", "entity B in [C];")
+        self.assertIn("C", caught.exception.message)
+
+    def test_include(self):
+        self.assertIsNone(cedar_schema.include("entity A;", "entity A, B;"))
+        self.assertEqual(cedar_schema.include("entity A, B;", "entity B;"), 'entity A::""')
+        with self.assertRaises(SchemaError):
+            cedar_schema.include("entity A;", "entity B in [C];")
+
     def test_answers(self):
         count = 0
         with open(os.path.join(os.path.dirname(__file__), "../../answers"), "rb") as file:

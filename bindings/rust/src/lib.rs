@@ -39,6 +39,27 @@ extern "C" {
     fn cedar_schema_from_json(bytes: *const u8, len: usize, answer: *mut Filled) -> u8;
     fn cedar_schema_from_deprecated(bytes: *const u8, len: usize, answer: *mut Filled) -> u8;
     fn cedar_schema_format(bytes: *const u8, len: usize, answer: *mut Filled) -> u8;
+    fn cedar_schema_report(bytes: *const u8, len: usize, answer: *mut Filled) -> u8;
+    fn cedar_schema_complete(
+        bytes: *const u8,
+        len: usize,
+        place: usize,
+        answer: *mut Filled,
+    ) -> u8;
+    fn cedar_schema_same(
+        first: *const u8,
+        first_len: usize,
+        second: *const u8,
+        second_len: usize,
+        answer: *mut Filled,
+    ) -> u8;
+    fn cedar_schema_include(
+        old: *const u8,
+        old_len: usize,
+        new: *const u8,
+        new_len: usize,
+        answer: *mut Filled,
+    ) -> u8;
     fn cedar_schema_run(
         words: *const Bytes,
         count: usize,
@@ -147,7 +168,11 @@ fn answer(call: Call, input: &[u8]) -> Result<String, Error> {
     let mut filled = Filled { out: Bytes::none(), err: Bytes::none() };
     // SAFETY: pointer and length are those of one slice, lent for the call; the answer is this call's alone.
     let status = unsafe { call(input.as_ptr(), input.len(), &mut filled) };
-    let answer = taken(status, filled);
+    told(taken(status, filled))
+}
+
+// The output of an answer that is done.
+fn told(answer: Answer) -> Result<String, Error> {
     let told = |bytes: Vec<u8>| String::from_utf8(bytes).expect("outputs are UTF-8");
     match answer.status {
         0 => Ok(told(answer.out)),
@@ -236,6 +261,60 @@ pub fn from_deprecated(json: &str) -> Result<String, Error> {
 /// A schema text laid out anew, with its comments.
 pub fn format(text: &str) -> Result<String, Error> {
     answer(cedar_schema_format, text.as_bytes())
+}
+
+/// What may stand at a place of a text.
+#[derive(Clone, Debug, PartialEq, Eq)]
+pub struct Completions {
+    /// The kinds of tokens, as messages call them.
+    pub kinds: Vec<String>,
+    /// The names that complete the word that ends at the place.
+    pub names: Vec<String>,
+}
+
+/// What may stand at a place, a byte offset. It is an error where the text before it has a fault, and where there is no
+/// such place.
+pub fn complete(text: &str, place: usize) -> Result<Completions, Error> {
+    let mut filled = Filled { out: Bytes::none(), err: Bytes::none() };
+    // SAFETY: pointer and length are those of one text, lent for the call; the answer is this call's alone.
+    let status = unsafe { cedar_schema_complete(text.as_ptr(), text.len(), place, &mut filled) };
+    let lines = told(taken(status, filled))?;
+    let of = |what: &str| lines.lines().filter_map(|line| line.strip_prefix(what)).map(str::to_owned).collect();
+    Ok(Completions { kinds: of("kind "), names: of("name ") })
+}
+
+/// What is reported of a schema text: its warnings or its faults, each as an object of JSON with the lines and the columns
+/// of its places. A text with faults is no error here.
+pub fn report(text: &str) -> Result<Vec<String>, Error> {
+    let mut filled = Filled { out: Bytes::none(), err: Bytes::none() };
+    // SAFETY: pointer and length are those of one text, lent for the call; the answer is this call's alone.
+    let status = unsafe { cedar_schema_report(text.as_ptr(), text.len(), &mut filled) };
+    let mut answer = taken(status, filled);
+    if answer.status == 1 {
+        answer.status = 0;
+    }
+    Ok(told(answer)?.split_terminator('\n').map(str::to_owned).collect())
+}
+
+/// Whether two schema texts mean the same. It is an error where one of them is no schema.
+pub fn same(first: &str, second: &str) -> Result<bool, Error> {
+    let mut filled = Filled { out: Bytes::none(), err: Bytes::none() };
+    // SAFETY: pointers and lengths are those of two texts, lent for the call; the answer is this call's alone.
+    let status = unsafe {
+        cedar_schema_same(first.as_ptr(), first.len(), second.as_ptr(), second.len(), &mut filled)
+    };
+    Ok(told(taken(status, filled))? == "same\n")
+}
+
+/// `None` where the new schema admits all that the old one does, and else what the first value is about that it does
+/// not admit. It is an error where one of them is no schema.
+pub fn include(old: &str, new: &str) -> Result<Option<String>, Error> {
+    let mut filled = Filled { out: Bytes::none(), err: Bytes::none() };
+    // SAFETY: pointers and lengths are those of two texts, lent for the call; the answer is this call's alone.
+    let status =
+        unsafe { cedar_schema_include(old.as_ptr(), old.len(), new.as_ptr(), new.len(), &mut filled) };
+    let found = told(taken(status, filled))?;
+    Ok(found.strip_prefix("not included: ").map(|subject| subject.trim_end().to_owned()))
 }
 
 /// What the program `cedar_schema_tool` answers to these words and this input.

@@ -1,4 +1,6 @@
-use cedar_schema::{check, format, from_deprecated, from_json, recover, run, to_json, version, Error};
+use cedar_schema::{
+    check, complete, format, from_deprecated, from_json, include, recover, report, run, same, to_json, version, Error,
+};
 use std::thread;
 
 #[test]
@@ -24,6 +26,31 @@ fn refusals_have_place_and_help() {
     let error = recover("action view appliesTo { principal: User };").unwrap_err();
     assert_eq!(error.place(), Some((7, 11)));
     assert!(error.help().unwrap().starts_with("Every action must define both"));
+}
+
+#[test]
+fn places_are_completed() {
+    let text = "entity User; entity A in U;";
+    assert_eq!(complete(text, 26).unwrap().names, ["User"]);
+    assert_eq!(complete("entity = A", 10).unwrap_err().to_string(), "unexpected token `=`");
+    assert!(complete(text, 99).is_err());
+}
+
+#[test]
+fn faults_are_reported() {
+    assert!(report("entity A;").unwrap().is_empty());
+    let reports = report("entity A in [B];\nentity A;").unwrap();
+    assert_eq!(reports.len(), 1);
+    assert!(reports[0].contains("\"start\":{\"byte\":24,\"column\":8,\"line\":2,\"utf16\":8}"), "{}", reports[0]);
+}
+
+#[test]
+fn texts_are_compared() {
+    assert!(same("entity A, B;", "// b\nentity B; entity A;").unwrap());
+    assert!(!same("entity A;", "entity A tags Long;").unwrap());
+    assert_eq!(include("entity A;", "entity A, B;").unwrap(), None);
+    assert_eq!(include("entity A, B;", "entity B;").unwrap().unwrap(), "entity A::\"\"");
+    assert!(matches!(same("entity A;", "entity B in [C];"), Err(Error::Refused(_))));
 }
 
 #[test]

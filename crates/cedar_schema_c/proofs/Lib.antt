@@ -1,2 +1,3 @@
 mod TextWords
 mod NoWords
+mod Said

@@ -12,14 +12,22 @@ ghost use Rattle.cedar_runs.specs.Reports.{report_of};
 ghost use Rattle.cedar_nesting.specs.Nesting.{IsTooDeep};
 ghost use Rattle.cedar_schema_core.specs.Plan.{IsPlan};
 ghost use Rattle.schema_layout.specs.Plans.{IsLayoutPlan};
-ghost use Rattle.cedar_schema_c.specs.Answers.{IsHanded, IsWordsPlan, memory_code, deep_code, words_of};
+ghost use Rattle.schema_assist.specs.Plans.{IsPlaceReport};
+ghost use Rattle.schema_inclusion.specs.Plans.{IsTextsReport};
+ghost use Rattle.schema_same.specs.Replies.{IsSameReport};
+ghost use Rattle.schema_text_reports.specs.ReportReplies.{IsReportsPlan};
+ghost use Rattle.cedar_schema_c.specs.Answers.{IsHanded, IsTwoInputsReport, IsWordsPlan};
+ghost use Rattle.cedar_schema_c.specs.Answers.{memory_code, deep_code, words_of};
 
 use crate::answer::{Answer, answer_of};
 use crate::replies::reply_of_words;
+use crate::two_texts::{AdmitsAll, AreSame, TwoTexts, reply_of_two};
 use cedar_nesting::is_too_deep;
 use cedar_runs::{Program, Reply, Status};
 use cedar_schema_core::Command;
+use schema_assist::reply_at;
 use schema_layout::LayOut;
+use schema_text_reports::reply_of_reports;
 use std::alloc::{AllocError, Global};
 
 /// The status of a call where memory is out.
@@ -107,6 +115,22 @@ fn answer_word<P: Program>(alloc: Global, word: &str, bytes: &[u8], answer: &mut
     }
 }
 
+// What a comparison answers to two inputs.
+fn answer_two<T: TwoTexts>(alloc: Global, first: &[u8], second: &[u8], answer: &mut Answer) -> u8
+    ensures planned { result ≢ memory_code → result ≢ deep_code
+        → IsHanded (IsTwoInputsReport T.answers first.now second.now) result answer.new }
+    ensures deep { result ≡ deep_code ↔ (IsTooDeep first.now ⊎ IsTooDeep second.now) }
+    ensures kept { (result ≡ memory_code) ⊎ (result ≡ deep_code) → answer.new ≡ answer.old }
+{
+    if is_too_deep(first) || is_too_deep(second) {
+        return TOO_DEEP;
+    }
+    match reply_of_two::<T>(alloc, first, second) {
+        Ok(reply) => hand_out(alloc, &reply, answer),
+        Err(_) => MEMORY,
+    }
+}
+
 /// The canonical text of what the schema text means.
 #[unsafe(no_mangle)]
 pub extern "C" fn cedar_schema_recover(alloc: Global, bytes: &[u8], answer: &mut Answer) -> u8
@@ -175,6 +199,80 @@ pub extern "C" fn cedar_schema_format(alloc: Global, bytes: &[u8], answer: &mut 
     ensures kept { (result ≡ memory_code) ⊎ (result ≡ deep_code) → answer.new ≡ answer.old }
 {
     answer_word::<LayOut>(alloc, "layout", bytes, answer)
+}
+
+/// What may stand at this place of the schema text, a byte offset: a line for each kind of token, and one for each name
+/// that the text itself declares or Cedar has.
+#[unsafe(no_mangle)]
+pub extern "C" fn cedar_schema_complete(
+    alloc: Global,
+    bytes: &[u8],
+    place: usize,
+    answer: &mut Answer,
+) -> u8
+    ensures planned { result ≢ memory_code → result ≢ deep_code
+        → IsHanded (IsPlaceReport place bytes.now) result answer.new }
+    ensures deep { result ≡ deep_code ↔ IsTooDeep bytes.now }
+    ensures kept { (result ≡ memory_code) ⊎ (result ≡ deep_code) → answer.new ≡ answer.old }
+{
+    if is_too_deep(bytes) {
+        return TOO_DEEP;
+    }
+    match reply_at(alloc, place, bytes) {
+        Ok(reply) => hand_out(alloc, &reply, answer),
+        Err(_) => MEMORY,
+    }
+}
+
+/// What is reported of the schema text, its warnings or its faults: a line of JSON for each, with the bytes, the lines
+/// and the columns of its places.
+#[unsafe(no_mangle)]
+pub extern "C" fn cedar_schema_report(alloc: Global, bytes: &[u8], answer: &mut Answer) -> u8
+    ensures planned { result ≢ memory_code → result ≢ deep_code
+        → IsHanded (IsReportsPlan bytes.now) result answer.new }
+    ensures deep { result ≡ deep_code ↔ IsTooDeep bytes.now }
+    ensures kept { (result ≡ memory_code) ⊎ (result ≡ deep_code) → answer.new ≡ answer.old }
+{
+    if is_too_deep(bytes) {
+        return TOO_DEEP;
+    }
+    match reply_of_reports(alloc, bytes) {
+        Ok(reply) => hand_out(alloc, &reply, answer),
+        Err(_) => MEMORY,
+    }
+}
+
+/// Whether two schema texts have one meaning: `same` or `different`.
+#[unsafe(no_mangle)]
+pub extern "C" fn cedar_schema_same(
+    alloc: Global,
+    first: &[u8],
+    second: &[u8],
+    answer: &mut Answer,
+) -> u8
+    ensures planned { result ≢ memory_code → result ≢ deep_code
+        → IsHanded (IsTwoInputsReport IsSameReport first.now second.now) result answer.new }
+    ensures deep { result ≡ deep_code ↔ (IsTooDeep first.now ⊎ IsTooDeep second.now) }
+    ensures kept { (result ≡ memory_code) ⊎ (result ≡ deep_code) → answer.new ≡ answer.old }
+{
+    answer_two::<AreSame>(alloc, first, second, answer)
+}
+
+/// Whether a new schema text admits all that an old one does: `included`, or what the first value is about that it does
+/// not admit.
+#[unsafe(no_mangle)]
+pub extern "C" fn cedar_schema_include(
+    alloc: Global,
+    old_bytes: &[u8],
+    new_bytes: &[u8],
+    answer: &mut Answer,
+) -> u8
+    ensures planned { result ≢ memory_code → result ≢ deep_code
+        → IsHanded (IsTwoInputsReport IsTextsReport old_bytes.now new_bytes.now) result answer.new }
+    ensures deep { result ≡ deep_code ↔ (IsTooDeep old_bytes.now ⊎ IsTooDeep new_bytes.now) }
+    ensures kept { (result ≡ memory_code) ⊎ (result ≡ deep_code) → answer.new ≡ answer.old }
+{
+    answer_two::<AdmitsAll>(alloc, old_bytes, new_bytes, answer)
 }
 
 /// What the program `cedar_schema_tool` answers to these words and the input.

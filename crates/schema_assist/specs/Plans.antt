@@ -67,6 +67,12 @@ pub data IsAssistAnswer (place : ℕ) (table : ExtensionTable) (text : List ℕ)
   fault : (error : ParseError) → IsAssistRefusal text place (Syntax error)
       → IsAssistAnswer place table text (fault_report error)
 
+-- what is answered to a place and an input, with all extension types that Cedar has
+pub record IsPlaceReport (place : ℕ) (bytes : List ℕ) (report : Report) : Type 0 where
+  pub table : ExtensionTable
+  pub standard : IsStandard table
+  pub says : IsTextReport (IsAssistAnswer place table) bytes report
+
 -- the report for these words and this input, where no read fails
 pub data IsAssistPlan (words : List (List ℕ)) (bytes : List ℕ) : Report → Type 0 where
   usage : ((c : AssistAt) → Asks words c → ⊥) → IsAssistPlan words bytes usage_report

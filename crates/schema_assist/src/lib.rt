@@ -10,6 +10,6 @@ mod words;
 
 pub use assistance::{Assistance, assist};
 pub use laws::{assisted_or_refused, one_assistance, one_refusal};
-pub use run::{AssistAt, run_assist};
+pub use run::{AssistAt, reply_at, run_assist};
 pub use schema_assist_places::laws::one_place;
 pub use schema_assist_words::AssistError;

@@ -6,7 +6,7 @@ ghost use Rattle.cedar_runs.specs.Reports.{Report, report_of, read_fault_report}
 ghost use Rattle.cedar_runs.specs.Runs.{device, NoneCounted};
 ghost use Rattle.cedar_schema_core.specs.Commands.{IsStandard};
 ghost use Rattle.schema_assist.specs.Plans.{Asks, Reads, no_names, IsKnownFrom, IsAssistAnswer, IsAssistPlan};
-ghost use Rattle.schema_assist.specs.Plans.{fault_report, done_report};
+ghost use Rattle.schema_assist.specs.Plans.{fault_report, done_report, IsPlaceReport};
 ghost use Rattle.schema_assist.specs.Runs.{IsAssistRun, AssistedWhole};
 ghost use Rattle.schema_assist.specs.Words.{IsPlaceWord};
 
@@ -16,7 +16,7 @@ use crate::lines::assistance_lines;
 use crate::words::place_of;
 use cedar_data::{Diagnostic, Map, Text, around};
 use cedar_identifiers::RawName;
-use cedar_io::{Sink, Source};
+use cedar_io::{MAX_INPUT, Sink, Source};
 use cedar_names::ExtensionTable;
 use cedar_runs::{Program, Reply, Status, run_program};
 use cedar_schema_core::laws::refused_or_translated;
@@ -107,6 +107,21 @@ fn text_reply(
         Err(AssistError::BadPlace) => Reply::line(alloc, Status::Refused, NO_PLACE),
         Err(AssistError::Syntax(error)) => fault_reply(alloc, &error),
         Err(AssistError::Memory) => Err(AllocError),
+    }
+}
+
+/// What may stand at a place of an input, a byte offset, as the program says it: with the names known from the input
+/// itself, and all extension types that Cedar has. It errs when out of memory.
+pub fn reply_at(alloc: Global, place: usize, bytes: &[u8]) -> Result<Reply, AllocError>
+    ensures { IfOk result (λ reply. IsPlaceReport place bytes.now (report_of reply)) }
+{
+    let table = ExtensionTable::all_available(alloc)?;
+    if bytes.len() > MAX_INPUT {
+        return Reply::too_long(alloc);
+    }
+    match str::from_utf8(bytes) {
+        Ok(text) => text_reply(alloc, place, &table, text),
+        Err(_) => Reply::not_text(alloc),
     }
 }
 

@@ -2,12 +2,12 @@
 #![tactic(auto)]
 
 #[cfg(test)]
-mod assist_runs;
+mod assist_table;
 #[cfg(test)]
-mod layout_runs;
+mod layout_table;
 #[cfg(test)]
 mod registry_calls;
 #[cfg(test)]
-mod registry_runs;
+mod registry_table;
 #[cfg(test)]
 mod runs;

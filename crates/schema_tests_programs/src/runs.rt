@@ -1,8 +1,19 @@
-// Runs of programs over devices in memory.
+// Runs of programs over devices in memory. Each line of a table is a run, as its head says; each character of the input
+// is one byte.
 
-use cedar_io::{MemorySink, MemorySource};
+use crate::assist_table::assist_lines;
+use crate::layout_table::layout_lines;
+use crate::registry_table::registry_lines;
+use cedar_io::{MemorySink, SteadySource};
 use cedar_runs::{Program, run_program};
+use schema_assist::AssistAt;
+use schema_layout::LayOut;
+use schema_registry::Register;
+use schema_tests_lines::with_line_ends;
 use std::alloc::{AllocError, Global};
+
+// How much room the outputs have.
+const AMPLE: usize = 4096;
 
 // The words as strings.
 fn strings(alloc: Global, words: &str) -> Result<Vec<String>, AllocError> {
@@ -13,38 +24,65 @@ fn strings(alloc: Global, words: &str) -> Result<Vec<String>, AllocError> {
     Ok(strings)
 }
 
-// How a run is to end: its code, and what is on the output and the error output.
-#[derive(Clone, Copy)]
-pub(crate) struct Wanted<'a> {
-    pub code: u8,
-    pub out: &'a str,
-    pub err: &'a str,
+// The bytes with the numbers of these characters.
+fn bytes_of(alloc: Global, text: &str) -> Result<Vec<u8>, AllocError> {
+    let mut bytes = Vec::new(alloc);
+    for letter in text.chars() {
+        bytes.push((u32::from(letter) % 256) as u8)?;
+    }
+    Ok(bytes)
 }
 
-// Does a run on these bytes end so, where the reads with these numbers fail?
-pub(crate) fn ends<P: Program>(
-    alloc: Global,
-    words: &str,
-    bytes: &[u8],
-    failing: &[u64],
-    wanted: Wanted<'_>,
-) -> bool {
-    let (Ok(words), Ok(bytes), Ok(failing)) = (
-        strings(alloc, words),
-        bytes.to_vec(alloc),
-        failing.to_vec(alloc),
-    ) else {
+// Does a run on this input end with this code, and with this on the two outputs?
+fn ends<P: Program>(alloc: Global, words: &str, input: &str, code: u8, written: [&str; 2]) -> bool {
+    let (Ok(words), Ok(bytes)) = (strings(alloc, words), bytes_of(alloc, input)) else {
         return false;
     };
-    let mut source = MemorySource::new(bytes, failing);
-    let Ok(mut out) = MemorySink::with_room(alloc, 4096, Vec::new(alloc)) else {
+    let mut source = SteadySource::new(bytes);
+    let Ok(mut out) = MemorySink::with_room(alloc, AMPLE, Vec::new(alloc)) else {
         return false;
     };
-    let Ok(mut err) = MemorySink::with_room(alloc, 4096, Vec::new(alloc)) else {
+    let Ok(mut err) = MemorySink::with_room(alloc, AMPLE, Vec::new(alloc)) else {
         return false;
     };
     let status = run_program::<P, _, _, _>(alloc, &words, &mut source, &mut out, &mut err);
-    status.code() == wanted.code
-        && out.as_slice() == wanted.out.as_bytes()
-        && err.as_slice() == wanted.err.as_bytes()
+    status.code() == code
+        && out.as_slice() == written[0].as_bytes()
+        && err.as_slice() == written[1].as_bytes()
+}
+
+// The front of the line and what stands behind the sign.
+fn field(line: &str) -> (&str, &str) {
+    line.split_once('‖').unwrap_or(("", ""))
+}
+
+// Does the run of the line end as it says?
+fn agrees<P: Program>(alloc: Global, line: &str) -> bool {
+    let Ok(line) = with_line_ends(alloc, line) else {
+        return false;
+    };
+    let (words, line) = field(line.as_str());
+    let (code, line) = field(line);
+    let (out, line) = field(line);
+    let (err, input) = field(line);
+    match code.parse::<u8>() {
+        Ok(code) => ends::<P>(alloc, words, input, code, [out, err]),
+        Err(_) => false,
+    }
+}
+
+// Do all runs of the table end as it says?
+fn all_agree<P: Program>(alloc: Global, lines: &str) -> bool {
+    lines.lines().all(|line| agrees::<P>(alloc, line))
+}
+
+#[test]
+fn programs_answer_as_the_tables_say(rt: HostRuntime) {
+    let alloc = rt.alloc();
+    assert!(rt; all_agree::<AssistAt>(alloc, assist_lines()), "completion");
+    assert!(rt; all_agree::<LayOut>(alloc, layout_lines()), "the formatter");
+    assert!(rt;
+        all_agree::<Register>(alloc, registry_lines()),
+        "the registry"
+    );
 }

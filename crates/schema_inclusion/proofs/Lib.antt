@@ -1,0 +1,3 @@
+mod Plans
+mod Ran
+mod Two

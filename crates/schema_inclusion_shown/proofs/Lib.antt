@@ -1,0 +1,3 @@
+mod Growing
+mod Layers
+mod Rowed

@@ -1,0 +1,5 @@
+mod StatementLemmas
+mod QueryLemmas
+mod RowLemmas
+mod StateLemmas
+mod EnterLemmas

@@ -1,0 +1,11 @@
+pub mod Escapes
+pub mod FirstChar
+pub mod GitHub
+pub mod Human
+pub mod Json
+pub mod Lines
+pub mod Marks
+pub mod Places
+pub mod Reports
+pub mod Short
+pub mod TokenHelps

@@ -1,0 +1,3 @@
+pub mod FaultReports
+pub mod ReportReplies
+pub mod TextReports
