@@ -1,0 +1,5 @@
+mod Tidy
+mod Lists
+mod Values
+mod Logs
+mod Back

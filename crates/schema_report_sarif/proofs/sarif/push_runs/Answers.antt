@@ -1,0 +1,16 @@
+use Rattle.std.proofs.Common.{◌++◌, codes, string_bytes}
+use Rattle.std.proofs.lemmas.Result.{on_ok_weaker}
+use Rattle.json.specs.Print.{escape_byte}
+use Rattle.serde_json.specs.Written.{compact_text}
+use Rattle.schema_report.proofs.Chains.{step}
+use Rattle.schema_report_sarif.specs.Sarif.{run_value}
+use Rattle.schema_report_sarif.proofs.sarif.push_runs.Goals as goal
+
+pub returns : goal.returns
+unfolding escape_byte
+returns c =
+    let r3 = codes "]" in
+    let r2 = compact_text (run_value c.args.version.now c.args.found.now) ++ r3 in
+    on_ok_weaker c.push-2.result (λ e. step (string_bytes c.args.out.now) (codes "[") r2 c.in_ok-push.ensures
+    (step (string_bytes c.push.new.out) (compact_text (run_value c.args.version.now c.args.found.now)) r3
+    c.in_ok-push_run.ensures e)) c.push-2.ensures
