@@ -1,0 +1,10 @@
+mod Names
+mod Refusing
+mod Firsts
+mod Attributes
+mod Types
+mod Stages
+mod HeldIds
+mod EntityReasons
+mod RequestReasons
+mod Replies

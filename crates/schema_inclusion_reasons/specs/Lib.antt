@@ -1,0 +1,5 @@
+pub mod Places
+pub mod Misfits
+pub mod Reasons
+pub mod FirstMisfit
+pub mod FirstReason
