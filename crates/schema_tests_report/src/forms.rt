@@ -5,7 +5,8 @@ use cedar_data::{List, Severity, Text};
 use schema_report::{Lines, Report, ReportPlace, push_github, push_human, push_json, push_short};
 use std::alloc::{AllocError, Global};
 
-const PATH: &str = "a, b.cedarschema";
+/// The path in each form.
+pub const PATH: &str = "a, b.cedarschema";
 
 // A copy of the text, where there is one.
 fn copied(alloc: Global, text: Option<&'static str>) -> Result<Option<Text>, AllocError> {
@@ -32,8 +33,8 @@ fn push_place(
     places.push(ReportPlace { start, end, text })
 }
 
-// The report of the row.
-fn report(alloc: Global, row: &Row, lines: &Lines<'_>) -> Result<Report, AllocError> {
+/// The report of the row.
+pub fn report(alloc: Global, row: &Row, lines: &Lines<'_>) -> Result<Report, AllocError> {
     let mut places = List::new(alloc);
     push_place(alloc, &mut places, lines, row.first)?;
     push_place(alloc, &mut places, lines, row.second)?;

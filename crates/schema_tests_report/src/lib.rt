@@ -6,4 +6,6 @@ mod advice;
 #[cfg(test)]
 mod forms;
 #[cfg(test)]
+mod logs;
+#[cfg(test)]
 mod report_table;
