@@ -15,9 +15,11 @@ const END: &str =
 // The reports of the first rows.
 fn reports(alloc: Global, rows: usize) -> Result<Vec<Report>, AllocError> {
     let mut reports = Vec::new(alloc);
-    for row in &ROWS[..rows] {
-        let lines = Lines::of(alloc, row.text)?;
-        reports.push(report(alloc, row, &lines)?)?;
+    for (at, row) in ROWS.iter().enumerate() {
+        if at < rows {
+            let lines = Lines::of(alloc, row.text)?;
+            reports.push(report(alloc, row, &lines)?)?;
+        }
     }
     Ok(reports)
 }
@@ -37,11 +39,13 @@ fn log(alloc: Global, reports: &[Report]) -> Result<String, AllocError> {
 fn expected(alloc: Global, rows: usize) -> Result<String, AllocError> {
     let mut out = String::new(alloc);
     out.push_str(FRONT)?;
-    for (at, row) in ROWS[..rows].iter().enumerate() {
-        if at > 0 {
+    for (at, row) in ROWS.iter().enumerate() {
+        if 0 < at && at < rows {
             out.push_str(",")?;
         }
-        out.push_str(row.sarif)?;
+        if at < rows {
+            out.push_str(row.sarif)?;
+        }
     }
     out.push_str(END)?;
     Ok(out)
