@@ -1,0 +1,4 @@
+mod Asked
+mod Tables
+mod Told
+mod Answered
