@@ -29,6 +29,7 @@ Asks words c = AsksForTable (codes "include") (codes "include-with") words c.tab
 abbrev pub Reads : Include → Type 0
 Reads c = ⊤
 
+-- the words are none that the program takes, and the line says which it takes
 abbrev pub usage_report : Report
 usage_report =
     record { status = Usage; out = []; err = codes "usage: schema_inclusion include|include-with [NAME..]\n" }
@@ -56,6 +57,7 @@ abbrev pub answer_text : Option Subject → List ℕ
 answer_text None = codes "included\n"
 answer_text (Some s) = codes "not included: " ++ (subject_text s ++ codes "\n")
 
+-- the comparison is done, and its answer is written
 abbrev pub done_report : Option Subject → Report
 done_report found = record { status = Done; out = encode_utf8_all (answer_text found); err = [] }
 

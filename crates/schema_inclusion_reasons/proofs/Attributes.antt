@@ -127,7 +127,8 @@ module _ (Fits : Name → Text → Type 0) where
 
     skipped : (later : Option Named) → NamedExact fs es later → NamedExact (attribute m false t fs) es later
     skipped None h = (weaker (FieldHas Fits fs) (FieldHas Fits (attribute m false t fs)) (λ n w g. inr g) es h.0, h.1)
-    skipped (Some f) h = lifted m false t fs es es (λ n e. refl) may_lack (λ q d g. nothing_at m fs es q d above all g) f h
+    skipped (Some f) h = lifted m false t fs es es (λ n e. refl) may_lack
+        (λ q d g. nothing_at m fs es q d above all g) f h
 
     -- none of the entries is of the attribute
     pub absent_exact : (r : Bool) (later : Option Named) → NamedExact fs es later
@@ -163,7 +164,8 @@ module _ (Fits : Name → Text → Type 0) where
     )
 
   -- the first entry k and the first attribute m
-  pub by_order : (o : Ordering) (fs : Attributes) (m : Text) (r : Bool) (t : PlainType) (k : Text) (v : Val) (es : Entries)
+  pub by_order : (o : Ordering) (fs : Attributes) (m : Text) (r : Bool) (t : PlainType) (k : Text) (v : Val)
+      (es : Entries)
       (found : Option Found) (later behind : Option Named) → text_cmp k m ≡ o → AboveFields m fs
       → Rises (entry k v es)
       → ((q : Path) (d : Cause) → IsMisfit Fits t v q d → Has Fits t v → ⊥)
@@ -175,11 +177,16 @@ module _ (Fits : Name → Text → Type 0) where
       unknown_first (attribute m r t fs) k v es (e, above_after k m fs e above) up.0
   by_order Equal fs m r t k v es found later behind e above up deny h l s =
       let same = text_exact k m e in
-      subst (λ x. NamedExact (attribute m r t fs) (entry x v es) (or_else (option_map (λ g. with_name m g) found) later))
+      subst (λ x. NamedExact (attribute m r t fs) (entry x v es)
+      (or_else (option_map (λ g. with_name m g) found) later))
       (sym same) (present_exact fs m r t v es above (subst (λ x. AllEntries (λ n w. below x n) es) same up.0) deny
       found later h l)
   by_order Greater fs m r t k v es found later behind e above up deny h l s =
-      absent_exact fs m t (entry k v es) above (turned_below k m e, all_above m k es (turned_below k m e) up.0) r behind s
+      absent_exact fs m t (entry k v es) above (
+        turned_below k m e,
+        all_above m k es (turned_below k m e)
+            up.0,
+      ) r behind s
 
   -- ---- records
 

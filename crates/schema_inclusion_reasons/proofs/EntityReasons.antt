@@ -31,7 +31,8 @@ use Rattle.schema_inclusion_reasons.proofs.Stages.{Answered, Clear, Staged, chai
 use Rattle.schema_inclusion_reasons.proofs.HeldIds.{taken, not_taken, AtName, entity_at, id_fits, id_unfit}
 
 -- an entity as a type has it, whatever its kind
-pub record IsLike (m : SchemaMeaning) (e : EntityMeaning) (choices : Option (List Text)) (x : EntityValue) : Type 0 where
+pub record IsLike (m : SchemaMeaning) (e : EntityMeaning) (choices : Option (List Text)) (x : EntityValue)
+    : Type 0 where
   pub id : TakesId choices x.id
   pub attributes : Has (Fits m) (PlainType.Rec e.attributes) (values.Rec x.attributes)
   pub tags : HasTags m e.tags x.tags
@@ -155,7 +156,8 @@ module _ (m : SchemaMeaning) (w : IsWhole m) (ancestors : List Name) where
   parents_step : (p : Name × Text) (ps : List (Name × Text)) (k : ℕ) (found rest : Option Reason)
       → OneParent p ps k found → ParentsFound (k + 1) ps rest → ParentsFound k (p ∷ ps) (or_else found rest)
   parents_step p ps k None None h l = (h, l)
-  parents_step p ps k None (Some r) h l = (l.0, parents_later p ps k r l.1, λ s b g. l.2 s b (parents_past p ps k h s g))
+  parents_step p ps k None (Some r) h l =
+      (l.0, parents_later p ps k r l.1, λ s b g. l.2 s b (parents_past p ps k h s g))
   parents_step p ps k (Some r) rest h l =
       (h.0, h.1, λ s b g. none_less p ps k s (subst (λ y. PathBefore (path_of s) y) h.2 b) g)
 

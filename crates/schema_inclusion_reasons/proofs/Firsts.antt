@@ -51,7 +51,8 @@ string_exact (values.Str s) = tt
 string_exact _ = ((refl, refl), λ q d b g. nothing_before q b)
 
 extension_at : (n m : Text) (b : Bool) → bytes_eq m n ≡ b
-    → Exact (IsExt n (values.Ext m)) (ExtensionMisfit n (values.Ext m)) (cond b None (other_shape (extension_of n) (values.Ext m)))
+    → Exact (IsExt n (values.Ext m)) (ExtensionMisfit n (values.Ext m))
+    (cond b None (other_shape (extension_of n) (values.Ext m)))
 extension_at n m true e = same m n e
 extension_at n m false e = ((apart m n e, (refl, refl)), λ q d b g. nothing_before q b)
 
@@ -123,7 +124,8 @@ module _ (P : Val → Path → Cause → Type 0) (H : Val → Type 0) (deny : (v
 
   members_exact : (vs : Vals) (k : ℕ) → Exact (AllVals H vs) (Members k vs) (members_misfit f k vs)
   members_exact no_vals k = tt
-  members_exact (val v vs) k = member_step v vs k (f v) (members_misfit f (k + 1) vs) (exact v) (members_exact vs (k + 1))
+  members_exact (val v vs) k = member_step v vs k (f v) (members_misfit f (k + 1) vs)
+      (exact v) (members_exact vs (k + 1))
 
   pub set_exact : (v : Val) → Exact (IsSet H v) (SetMisfit P v) (set_misfit f v)
   set_exact (values.Set vs) = members_exact vs 0
