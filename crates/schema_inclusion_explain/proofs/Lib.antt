@@ -1,0 +1,4 @@
+mod Sought
+mod Keyed
+mod Steps
+mod Walks
