@@ -13,10 +13,12 @@ use Rattle.schema_inclusion_explain.specs.declared.places.Cause as causes
 use Rattle.schema_inclusion_explain.specs.declared.places.Cause.TheVariants as cause
 use Rattle.schema_inclusion_explain.specs.declared.places.Found as found
 
+-- a step in memory
 abbrev pub held_step : steps.Step → Step
 held_step (step.Attr n) = attr n
 held_step (step.Member i) = member i
 
+-- a shape in memory
 abbrev pub held_shape : shapes.Shape → Shape
 held_shape shape.Bool = a_bool
 held_shape shape.Long = a_long
@@ -26,6 +28,7 @@ held_shape shape.Record = a_record
 held_shape (shape.Entity n) = entity_of (components_of n.name)
 held_shape (shape.Extension n) = extension_of n.id.text
 
+-- a cause in memory
 abbrev pub held_cause : causes.Cause → Cause
 held_cause cause.Required = is_required
 held_cause cause.Unknown = is_unknown
