@@ -33,36 +33,45 @@ fn field(line: &str) -> (&str, &str) {
     line.split_once('‖').unwrap_or(("", ""))
 }
 
+// What stands between the signs.
+fn fields<'a>(alloc: Global, row: &'a str) -> Vec<&'a str> {
+    let mut fields = Vec::new(alloc);
+    for part in row.split('‖') {
+        if fields.push(part).is_err() {
+            break;
+        }
+    }
+    fields
+}
+
 // Puts each file of the row, `path‖content‖..`. A row without a file is empty.
 fn put_all(alloc: Global, files: &mut MemoryFiles, row: &str) -> bool {
-    let mut rest = row;
-    while !rest.is_empty() {
-        let (path, behind) = field(rest);
-        let (content, after) = behind.split_once('‖').unwrap_or((behind, ""));
+    for pair in fields(alloc, row).chunks_exact(2) {
+        let [path, content] = pair else {
+            return false;
+        };
         let Ok(bytes) = bytes_of(alloc, content) else {
             return false;
         };
         if files.put(path, bytes.as_slice()).is_err() {
             return false;
         }
-        rest = after;
     }
     true
 }
 
 // Does each file of the row hold what the row says?
 fn all_hold(alloc: Global, files: &mut MemoryFiles, row: &str) -> bool {
-    let mut rest = row;
-    while !rest.is_empty() {
-        let (path, behind) = field(rest);
-        let (content, after) = behind.split_once('‖').unwrap_or((behind, ""));
+    for pair in fields(alloc, row).chunks_exact(2) {
+        let [path, content] = pair else {
+            return false;
+        };
         let (Ok(wanted), Ok(found)) = (bytes_of(alloc, content), files.read(alloc, path)) else {
             return false;
         };
         if wanted.as_slice() != found.as_slice() {
             return false;
         }
-        rest = after;
     }
     true
 }
