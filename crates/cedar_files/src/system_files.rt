@@ -9,6 +9,7 @@ use std::io::{Read, Write};
 use std::{fs, io};
 
 /// The files of the system. Its clauses say nothing of what files hold: the system is trusted with that.
+#[derive(Drop)]
 pub struct SystemFiles<'a> {
     rt: &'a HostRuntime,
 }

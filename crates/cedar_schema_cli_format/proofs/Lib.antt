@@ -1,0 +1,5 @@
+mod Carried
+mod ChangeParts
+mod Outcomes
+mod Replaced
+mod Taken

@@ -1,0 +1,5 @@
+pub mod Plans
+pub mod Replacing
+pub mod Formats
+pub mod Formatting
+pub mod Stopping

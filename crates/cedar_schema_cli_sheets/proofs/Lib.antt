@@ -1,0 +1,4 @@
+mod Shown
+pub mod Getting
+mod NoLines
+mod Outcomes
