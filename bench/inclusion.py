@@ -3,8 +3,8 @@
 
 usage: bench/inclusion.py [RUNS]   (build first: ./cedar_schema_tool --build and ./schema_inclusion --build)
 
-Printed are processor seconds, medians of RUNS or five, and the most memory in use. Wanted: at most 2.5 times one `recover`,
-and at most 2.1 times the time for an input twice as long.
+Printed are processor seconds, medians of RUNS or five, and the most memory in use. Wanted: at most 2.5 times one
+`recover`, and at most 2.1 times the time for an input twice as long.
 """
 import os
 import statistics
@@ -29,7 +29,8 @@ def plain(count):
         out.append(f'entity Kind{k:06} enum ["first", "second"];')
     for k in range(count // 3):
         kinds = f"principal: [User{k:06}], resource: [User{k:06}, Root]"
-        out.append(f'action "act{k:06}" in ["any"] appliesTo {{ {kinds}, context: {{ kind: Kind{k // 2:06}, at: Long }} }};')
+        context = f"context: {{ kind: Kind{k // 2:06}, at: Long }}"
+        out.append(f'action "act{k:06}" in ["any"] appliesTo {{ {kinds}, {context} }};')
     out.append('action "any";')
     return "\n".join(out)
 

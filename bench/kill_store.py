@@ -1,7 +1,7 @@
 #!/usr/bin/env python3
 """Kills the stored registry at random times, and compares what the file holds with what was answered.
 
-usage: bench/kill_store.py --build      proves and links the program, bench/stored_lines.source (LLVM takes many minutes)
+usage: bench/kill_store.py --build      proves and links the program, bench/stored_lines.source (takes many minutes)
        bench/kill_store.py [ROUNDS]     runs the trials (50 rounds)
 
 Each round sends schemas, some of them known and written differently, and kills the process after a random time. Then

@@ -167,7 +167,8 @@ def read(path):
 def differs(name, answer, wanted):
     if answer == wanted:
         return False
-    print(f"{name}: {answer[0]} {answer[1][:80]!r} {answer[2][:80]!r}, not {wanted[0]} {wanted[1][:80]!r} {wanted[2]!r}")
+    print(f"{name}: {answer[0]} {answer[1][:80]!r} {answer[2][:80]!r}")
+    print(f"    not {wanted[0]} {wanted[1][:80]!r} {wanted[2]!r}")
     return True
 
 

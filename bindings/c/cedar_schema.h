@@ -60,8 +60,8 @@ uint8_t cedar_schema_complete(const uint8_t *bytes, size_t len, size_t place, ce
 
 /* What is reported of a schema text: `out` has an object of JSON on a line of its own for each warning, or, under
  * CEDAR_SCHEMA_REFUSED, for each fault. An object has `severity`, `rule`, `message`, `help`, `path`, which is `-`, and
- * `places`; each place has `start`, `end` and `text`, and a start or an end has `byte`, which counts from 0, and `line`,
- * `column` (in characters) and `utf16` (in UTF-16 units), which count from 1. */
+ * `places`; each place has `start`, `end` and `text`, and a start or an end has `byte`, which counts from 0, and
+ * `line`, `column` (in characters) and `utf16` (in UTF-16 units), which count from 1. */
 uint8_t cedar_schema_report(const uint8_t *bytes, size_t len, cedar_schema_answer *answer);
 
 /* Whether two schema texts mean the same: `out` has the line `same` or `different`. Where one of them is no schema,

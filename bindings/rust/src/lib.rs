@@ -283,8 +283,8 @@ pub fn complete(text: &str, place: usize) -> Result<Completions, Error> {
     Ok(Completions { kinds: of("kind "), names: of("name ") })
 }
 
-/// What is reported of a schema text: its warnings or its faults, each as an object of JSON with the lines and the columns
-/// of its places. A text with faults is no error here.
+/// What is reported of a schema text: its warnings or its faults, each as an object of JSON with the lines and the
+/// columns of its places. A text with faults is no error here.
 pub fn report(text: &str) -> Result<Vec<String>, Error> {
     let mut filled = Filled { out: Bytes::none(), err: Bytes::none() };
     // SAFETY: pointer and length are those of one text, lent for the call; the answer is this call's alone.

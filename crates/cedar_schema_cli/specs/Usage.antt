@@ -1,4 +1,4 @@
--- What is told of words that are wrong, as characters.
+-- What the program says of wrong words, as characters.
 use Rattle.std.specs.Prelude.{ℕ, List, [], ◌++◌, codes, string_bytes}
 use Rattle.std.specs.Str.{chars, encode_utf8_all}
 use Rattle.cedar_runs.specs.Reports.{Report}

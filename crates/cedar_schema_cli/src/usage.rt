@@ -1,4 +1,4 @@
-//! What is told of words that are wrong.
+//! What the program says of wrong words.
 ghost use Rattle.std.specs.Prelude.{◌≡◌, ◌++◌, true, codes, IfOk, OnOk};
 ghost use Rattle.std.specs.Char.{is_ascii};
 ghost use Rattle.std.specs.List.{list_all};

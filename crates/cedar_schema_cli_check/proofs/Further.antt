@@ -1,4 +1,4 @@
--- What is told of inputs with one more.
+-- The reports on one input more.
 use Rattle.std.proofs.Common.{ℕ, List, [], ◌∷◌, ◌++◌, Option}
 use Rattle.cedar_files.specs.Files.{Contents, Keeps}
 use Rattle.cedar_names.specs.declared.extension_table.ExtensionTable.{ExtensionTable}

@@ -36,8 +36,8 @@ pub data IsOutcome (name : List ℕ) : Given → Outcome → Type 0 where
   unread : {fault : FileFault}
       → IsOutcome name (Err fault) (faulty (fault_item name (fault_words fault) ∷ []) (fault_status fault))
 
--- a file that is to be replaced: the path beside it, at which its new content is written first, that content, and what
--- is told where it cannot be replaced
+-- a file that is to be replaced: the path beside it, at which its new content is written first, that content, and the
+-- report where it cannot be replaced
 pub record Replacement : Type 0 where
   pub path : List ℕ
   pub beside : List ℕ

@@ -3,7 +3,7 @@ use Rattle.std.specs.Prelude.{◌≡◌, ◌≢◌, ℕ, List, [], ◌∷◌, �
 use Rattle.cedar_files.specs.Files.{Contents, Keeps}
 use Rattle.cedar_schema_cli_format.specs.Plans.{Replacement}
 
--- where it is told, the file holds these bytes after, and all other files but the one beside it are as before
+-- where files say what they hold: this one holds these bytes after, and all others but the one beside it are as before
 abbrev pub IsReplaced : Option Contents → List ℕ → List ℕ → List ℕ → Option Contents → Type 0
 IsReplaced (Some old) path beside bytes (Some new) = (new path ≡ Some bytes)
     × ((other : List ℕ) → other ≢ path → other ≢ beside → new other ≡ old other)
@@ -11,7 +11,7 @@ IsReplaced None path beside bytes None = ⊤
 IsReplaced (Some old) path beside bytes None = ⊥
 IsReplaced None path beside bytes (Some new) = ⊥
 
--- where it is told, all files but the one with this path are as before
+-- where files say what they hold: all but the one with this path are as before
 abbrev pub IsSpared : Option Contents → List ℕ → Option Contents → Type 0
 IsSpared (Some old) beside (Some new) = (other : List ℕ) → other ≢ beside → new other ≡ old other
 IsSpared None beside None = ⊤

@@ -16,7 +16,7 @@ pub struct Change {
     pub path: String,
     /// The path at which the new content is written first.
     pub beside: String,
-    /// What is told where the file cannot be replaced.
+    /// The report where the file cannot be replaced.
     pub told: String,
     /// The new content.
     pub text: Text,

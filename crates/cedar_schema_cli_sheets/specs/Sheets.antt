@@ -58,7 +58,7 @@ count_text Short count = codes "and " ++ (decimal count ++ codes " more\n")
 count_text Json count = codes "{\"more\":" ++ (decimal count ++ codes "}\n")
 count_text GitHub count = codes "::notice::and " ++ (decimal count ++ codes " more\n")
 
--- what is told of reports that are not written
+-- the line that counts the reports which are not written, where there are such
 abbrev pub hidden_text : Form → ℕ → List ℕ
 hidden_text form count = if nat_lt 0 count then count_text form count else []
 

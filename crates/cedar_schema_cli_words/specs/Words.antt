@@ -83,7 +83,7 @@ abbrev pub unless_unknown : List (List ℕ) → Reading → Reading
 unless_unknown [] reading = reading
 unless_unknown (word ∷ words) reading = no_such_option word
 
--- what the words behind a command ask for: the first unknown one is told, and options and names stand in any order
+-- what the words behind a command ask for: the first unknown option is the fault; options and names stand in any order
 abbrev pub asked_behind : Command → List (List ℕ) → Reading
 asked_behind command words = unless_unknown (filter (is_unknown command) words)
     (on_names command (options_in words) (filter is_name words))
